@@ -1,0 +1,4 @@
+pub mod Appending
+pub mod Fails
+pub mod Names
+pub mod Reading
