@@ -1,0 +1,5 @@
+pub mod Steps
+pub mod Ascii
+pub mod Sizes
+pub mod Printed
+pub mod Inside

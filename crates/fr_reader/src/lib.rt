@@ -1,0 +1,11 @@
+//! Reads texts as data: integers, truth values, symbols, strings and lists, with blanks and comments between them.
+#![tactic(auto)]
+
+mod atoms;
+mod bytes;
+mod front;
+mod reader;
+#[cfg(test)]
+mod tests;
+
+pub use reader::{OneStop, ReadStop, one_reading, printed_text_reads, read_all, read_one};

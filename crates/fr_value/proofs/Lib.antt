@@ -1,0 +1,4 @@
+pub mod Lists
+pub mod Meet
+pub mod Parts
+pub mod Equal

@@ -1,0 +1,67 @@
+-- The size and depth of the first items of a list.
+use Rattle.std.proofs.Common.{◌≡◌, ℕ, ◌+◌, ◌≤◌, ◌<◌, List, [], ◌∷◌, length, drop, get_or, map, max, refl, ap, sym, subst, ◌∙◌, arith, zero, suc, drop-cons, add-one, ◌⊎◌, inl, inr}
+use Rattle.std.proofs.lemmas.List.{get_or-map, drop_all}
+use Rattle.fr_value.specs.declared.value.Value.{Value}
+use Rattle.fr_value.specs.declared.value.Datum.{Datum}
+use Rattle.fr_value.specs.Data.{data_of, data_size, data_depth, datum_of, datum_size, datum_depth, value_size, value_depth, size-of, depth-of, total, greatest, AreFew, datum_one}
+
+abbrev pub rest_of : List Value → ℕ → List Datum
+rest_of vs i = data_of (drop i vs)
+
+-- size and depth so far, and those of the rest, are those of all
+pub record Split (vs : List Value) (i size depth : ℕ) : Type 0 where
+  pub sized : size + total (map datum_size (rest_of vs i)) ≡ data_size (data_of vs)
+  pub one : 1 ≤ depth
+  pub deep : max depth (1 + greatest (map datum_depth (rest_of vs i))) ≡ data_depth (data_of vs)
+
+at_front : (vs : List Value) (i : ℕ) (v : Value) → i < length vs → v ≡ get_or vs i v → rest_of vs i ≡ datum_of v ∷ rest_of vs (i + 1)
+at_front vs i v h e = rw (add-one, drop-cons vs i v h) (ap (λ w. datum_of w ∷ data_of (drop (suc i) vs)) (sym e))
+
+pub step : (vs : List Value) (i size depth : ℕ) → i < length vs → Split vs i size depth → (v : Value) → v ≡ get_or vs i v → Split vs (i + 1) (size + value_size v) (max depth (value_depth v + 1))
+step vs i size depth h s v e =
+    let front = at_front vs i v h e in
+    let sized = rw front at s.sized in
+    let deep = rw front at s.deep in
+    record { sized = omega (arith, size-of v, sized); one = omega (arith, s.one); deep = omega (arith, depth-of v, deep) }
+
+-- the next item is too large, or too deep
+pub too_big : (vs : List Value) (i size depth : ℕ) → i < length vs → Split vs i size depth → (v : Value) → v ≡ get_or vs i v
+    → (1048576 < size + value_size v) ⊎ (64 < value_depth v + 1) → AreFew (data_of vs) → ⊥
+too_big vs i size depth h s v e (inl big) few = let t = step vs i size depth h s v e in omega (arith, t.sized, few.0)
+too_big vs i size depth h s v e (inr big) few = let t = step vs i size depth h s v e in omega (arith, t.deep, few.1)
+
+pub done : (vs : List Value) (i size depth : ℕ) → length vs ≤ i → Split vs i size depth → (size ≡ data_size (data_of vs)) × (depth ≡ data_depth (data_of vs))
+done vs i size depth h s =
+    let e : rest_of vs i ≡ [] = rw (drop_all i vs h) refl in
+    (omega (arith, rw e at s.sized), omega (arith, s.one, rw e at s.deep))
+
+pub start : (vs : List Value) → Split vs 0 1 1
+start vs = record { sized = refl; one = omega arith; deep = omega arith }
+
+-- lists of equal data have equal items
+pub item_same : (xs ys : List Value) (i : ℕ) (x y : Value) → i < length xs → i < length ys → x ≡ get_or xs i x → y ≡ get_or ys i y → data_of xs ≡ data_of ys → x ≡ y
+item_same xs ys i x y h k ex ey e = datum_one x y (
+    ap datum_of ex ∙ sym (get_or-map datum_of xs i x (datum_of x) h)
+    ∙ ap (λ l. get_or l i (datum_of x)) e
+    ∙ get_or-map datum_of ys i y (datum_of x) k ∙ ap datum_of (sym ey))
+
+-- what is left of a list that is few is few
+pub few_behind : (vs : List Value) (v : Value) → AreFew (data_of (v ∷ vs)) → AreFew (data_of vs)
+few_behind vs v few = (omega (arith, few.0), omega (arith, few.1))
+
+-- an item is smaller than its list
+pub item_smaller : (vs : List Value) (i : ℕ) (v : Value) → i < length vs → v ≡ get_or vs i v → value_size v + 1 ≤ data_size (data_of vs)
+item_smaller [] i v h e = absurd (omega (arith, h))
+item_smaller (w ∷ vs) zero v h e = omega (arith, ap value_size e, size-of w)
+item_smaller (w ∷ vs) (suc i) v h e = omega (arith, item_smaller vs i v (omega (arith, h)) e)
+
+-- what is left of a list within the limits is within them
+pub few_tail : (vs : List Value) (v : Value) (tail : List Value) → AreFew (data_of vs) → vs ≡ v ∷ tail → AreFew (data_of tail)
+few_tail vs v tail few e = few_behind tail v (subst (λ x. AreFew (data_of x)) e few)
+
+-- the first item, and a list of the others, are smaller
+pub first_smaller : (vs : List Value) (v : Value) (tail : List Value) → vs ≡ v ∷ tail → value_size v + 1 ≤ data_size (data_of vs)
+first_smaller vs v tail e = omega (arith, size-of v, ap (λ x. data_size (data_of x)) e)
+
+pub others_smaller : (vs : List Value) (v : Value) (tail : List Value) → vs ≡ v ∷ tail → data_size (data_of tail) ≤ data_size (data_of vs)
+others_smaller vs v tail e = omega (arith, ap (λ x. data_size (data_of x)) e)
