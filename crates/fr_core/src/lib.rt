@@ -1,0 +1,18 @@
+//! Core programs and what the script sets, as plain data.
+#![tactic(auto)]
+
+mod core_form;
+mod inputs;
+mod lowered;
+mod program;
+mod site;
+#[cfg(test)]
+mod tests;
+mod text;
+mod words;
+
+pub use core_form::Core;
+pub use inputs::{Entry, Inputs, Sets};
+pub use lowered::{Low, LowFunction, LowItem, Lowered, Slot};
+pub use program::{Event, Function, Input, Item, Program};
+pub use text::core_text;

@@ -1,0 +1,173 @@
+use crate::core_form::Core;
+use crate::program::{Event, Function, Input, Item, Program};
+use crate::words::{core_word, prim_word};
+use fr_value::{Name, Value, text_into};
+use itoa::Buffer;
+use std::alloc::{AllocError, Global};
+
+fn word_into(out: &mut Vec<u8>, word: &str) -> Result<(), AllocError> {
+    out.extend_from_slice(word.as_bytes())
+}
+
+/// A space and a number.
+fn number_into(out: &mut Vec<u8>, number: u32) -> Result<(), AllocError> {
+    out.push(b' ')?;
+    out.extend_from_slice(Buffer::new().format(number).as_bytes())
+}
+
+/// A space and a name.
+fn name_into(out: &mut Vec<u8>, name: &Name) -> Result<(), AllocError> {
+    out.push(b' ')?;
+    word_into(out, name.as_str())
+}
+
+/// A space and a value.
+fn value_into(out: &mut Vec<u8>, value: &Value) -> Result<(), AllocError> {
+    out.push(b' ')?;
+    text_into(value, out)
+}
+
+/// What an expression has beside its parts.
+fn label_into(out: &mut Vec<u8>, e: &Core) -> Result<(), AllocError> {
+    match e {
+        Core::Lit(value) => value_into(out, value),
+        Core::Var(variable) => number_into(out, variable.0),
+        Core::Source(source) => number_into(out, source.0),
+        Core::Apply(function, _) => number_into(out, function.0),
+        Core::PrimApp(prim, _) => {
+            out.push(b' ')?;
+            word_into(out, prim_word(*prim))
+        }
+        _ => Ok(()),
+    }
+}
+
+/// A space and an expression, in brackets.
+#[cycle(text)]
+fn core_into(out: &mut Vec<u8>, e: &Core) -> Result<(), AllocError> {
+    word_into(out, " (")?;
+    word_into(out, core_word(e))?;
+    label_into(out, e)?;
+    parts_into(out, e)?;
+    out.push(b')')?;
+    Ok(())
+}
+
+#[cycle(text)]
+fn parts_into(out: &mut Vec<u8>, e: &Core) -> Result<(), AllocError> {
+    match e {
+        Core::Lit(_) | Core::Var(_) | Core::Source(_) => Ok(()),
+        Core::Let(parts, body) => {
+            each_into(out, parts.as_slice())?;
+            core_into(out, body.get())
+        }
+        Core::Apply(_, parts) | Core::PrimApp(_, parts) | Core::MergeE(parts) => {
+            each_into(out, parts.as_slice())
+        }
+        Core::If(a, b, c)
+        | Core::Fold(a, b, c)
+        | Core::Repeat(a, b, c)
+        | Core::CollectB(a, b, c)
+        | Core::CollectE(a, b, c) => {
+            core_into(out, a.get())?;
+            core_into(out, b.get())?;
+            core_into(out, c.get())
+        }
+        Core::MapE(a, b)
+        | Core::FilterE(a, b)
+        | Core::Hold(a, b)
+        | Core::Delay(a, b)
+        | Core::Feedback(a, b) => {
+            core_into(out, a.get())?;
+            core_into(out, b.get())
+        }
+        Core::Changes(a) | Core::OnceE(a) | Core::DelayE(a) => core_into(out, a.get()),
+    }
+}
+
+#[cycle(text)]
+fn each_into(out: &mut Vec<u8>, parts: &[Core]) -> Result<(), AllocError> {
+    for part in parts {
+        core_into(out, part)?;
+    }
+    Ok(())
+}
+
+fn input_into(out: &mut Vec<u8>, input: &Input) -> Result<(), AllocError> {
+    word_into(out, "(input")?;
+    number_into(out, input.source.0)?;
+    name_into(out, &input.name)?;
+    value_into(out, &input.first)?;
+    word_into(out, ")\n")
+}
+
+fn event_into(out: &mut Vec<u8>, event: &Event) -> Result<(), AllocError> {
+    word_into(out, "(event")?;
+    number_into(out, event.source.0)?;
+    name_into(out, &event.name)?;
+    word_into(out, ")\n")
+}
+
+fn function_into(out: &mut Vec<u8>, function: &Function) -> Result<(), AllocError> {
+    word_into(out, "(function")?;
+    name_into(out, &function.name)?;
+    number_into(out, function.params)?;
+    core_into(out, &function.body)?;
+    word_into(out, ")\n")
+}
+
+fn item_into(out: &mut Vec<u8>, item: &Item) -> Result<(), AllocError> {
+    match item {
+        Item::Define(e) => {
+            word_into(out, "(define")?;
+            core_into(out, e)?;
+        }
+        Item::Show(name, e) => {
+            word_into(out, "(show")?;
+            name_into(out, name)?;
+            core_into(out, e)?;
+        }
+    }
+    word_into(out, ")\n")
+}
+
+fn inputs_into(out: &mut Vec<u8>, inputs: &[Input]) -> Result<(), AllocError> {
+    for input in inputs {
+        input_into(out, input)?;
+    }
+    Ok(())
+}
+
+fn events_into(out: &mut Vec<u8>, events: &[Event]) -> Result<(), AllocError> {
+    for event in events {
+        event_into(out, event)?;
+    }
+    Ok(())
+}
+
+fn functions_into(out: &mut Vec<u8>, functions: &[Function]) -> Result<(), AllocError> {
+    for function in functions {
+        function_into(out, function)?;
+    }
+    Ok(())
+}
+
+fn body_into(out: &mut Vec<u8>, items: &[Item]) -> Result<(), AllocError> {
+    for item in items {
+        item_into(out, item)?;
+    }
+    Ok(())
+}
+
+/// A readable text of a program, for people: a line for each input, event, function and item, in this order.
+///
+/// An expression stands in brackets, its form's word first, then its number, value or primitive where it has one, and
+/// then its parts in their order, as `(show y (prim + (source 1) (lit 1)))`. It fails only where there is no memory.
+pub fn core_text(alloc: Global, program: &Program) -> Result<Vec<u8>, AllocError> {
+    let mut out = Vec::new(alloc);
+    inputs_into(&mut out, program.inputs.as_slice())?;
+    events_into(&mut out, program.events.as_slice())?;
+    functions_into(&mut out, program.functions.as_slice())?;
+    body_into(&mut out, program.body.as_slice())?;
+    Ok(out)
+}

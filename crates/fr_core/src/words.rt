@@ -1,0 +1,76 @@
+use crate::core_form::Core;
+use fr_value::Primitive;
+
+/// The word of a form.
+pub fn core_word(e: &Core) -> &'static str {
+    match e {
+        Core::Lit(_) => "lit",
+        Core::Var(_) => "var",
+        Core::Source(_) => "source",
+        Core::Let(_, _) => "let",
+        Core::If(_, _, _) => "if",
+        Core::Apply(_, _) => "call",
+        Core::PrimApp(_, _) => "prim",
+        Core::Fold(_, _, _) => "fold",
+        Core::Repeat(_, _, _) => "repeat",
+        Core::MapE(_, _) => "map-e",
+        Core::FilterE(_, _) => "filter-e",
+        Core::MergeE(_) => "merge-e",
+        Core::Hold(_, _) => "hold",
+        Core::CollectB(_, _, _) => "collect-b",
+        Core::CollectE(_, _, _) => "collect-e",
+        Core::Changes(_) => "changes",
+        Core::OnceE(_) => "once-e",
+        Core::Delay(_, _) => "delay",
+        Core::DelayE(_) => "delay-e",
+        Core::Feedback(_, _) => "feedback",
+    }
+}
+
+/// The first name of a primitive.
+pub fn prim_word(prim: Primitive) -> &'static str {
+    match prim {
+        Primitive::Add => "+",
+        Primitive::Mul => "*",
+        Primitive::Sub => "-",
+        Primitive::Quotient => "quotient",
+        Primitive::Remainder => "remainder",
+        Primitive::Modulo => "modulo",
+        Primitive::Abs => "abs",
+        Primitive::Min => "min",
+        Primitive::Max => "max",
+        Primitive::Equal => "=",
+        Primitive::Less => "<",
+        Primitive::Greater => ">",
+        Primitive::AtMost => "<=",
+        Primitive::AtLeast => ">=",
+        Primitive::IsZero => "zero?",
+        Primitive::IsPositive => "positive?",
+        Primitive::IsNegative => "negative?",
+        Primitive::IsEven => "even?",
+        Primitive::IsOdd => "odd?",
+        Primitive::Not => "not",
+        Primitive::Same => "equal?",
+        Primitive::IsInteger => "integer?",
+        Primitive::IsBoolean => "boolean?",
+        Primitive::IsSymbol => "symbol?",
+        Primitive::IsString => "string?",
+        Primitive::IsList => "list?",
+        Primitive::IsNull => "null?",
+        Primitive::IsPair => "pair?",
+        Primitive::List => "list",
+        Primitive::Cons => "cons",
+        Primitive::Car => "car",
+        Primitive::Cdr => "cdr",
+        Primitive::Length => "length",
+        Primitive::Append => "append",
+        Primitive::Reverse => "reverse",
+        Primitive::ListRef => "list-ref",
+        Primitive::StringLength => "string-length",
+        Primitive::StringAppend => "string-append",
+        Primitive::StringEqual => "string=?",
+        Primitive::SymbolToString => "symbol->string",
+        Primitive::NumberToString => "number->string",
+        Primitive::Raise => "raise",
+    }
+}

@@ -1,0 +1,15 @@
+//! The primitives of the language: arithmetic, comparisons, tests, lists and strings, each with its refusals.
+#![tactic(auto)]
+
+mod comparisons;
+mod integers;
+mod kinds;
+mod lists;
+mod names;
+mod strings;
+mod table;
+#[cfg(test)]
+mod tests;
+
+pub use names::prim_named;
+pub use table::{PrimStop, apply};

@@ -1,0 +1,231 @@
+ghost use Rattle.std.specs.Prelude.{◌≡◌, ◌++◌, ◌∷◌, IfOk, OnOk, Ok, pos, length, reverse, nat_le, slice_get, ◌+◌, ◌≤◌};
+ghost use Rattle.fr_value.specs.Data.{data_of, datum_of, data_size};
+ghost use Rattle.fr_value.specs.declared.value.Value.TheVariants as value;
+ghost use Rattle.fr_prims.specs.Integers.{one, two, on_integer};
+ghost use Rattle.fr_prims.specs.Data.{list_answer, on_list, car as car_of, cdr as cdr_of, list_ref, item_answer, joined, items_of, appended};
+
+use crate::kinds::{Answer, Kind, all_of};
+use fr_value::{Bad, List, ListRefusal, Value};
+use std::alloc::{AllocError, Global};
+
+/// The list of these items, which it takes over; TooBig where it is beyond the limits.
+fn list_of(alloc: Global, items: Vec<Value>) -> Result<Answer, AllocError>
+    ensures { IfOk result (λ r. r ≡ list_answer (data_of items.items)) }
+{
+    match List::of_vec(alloc, items) {
+        Ok(list) => Ok(Ok(Value::List(list))),
+        Err(ListRefusal::TooBig) => Ok(Err(Bad::TooBig)),
+        Err(ListRefusal::Memory(e)) => Err(e),
+    }
+}
+
+/// The list of the arguments.
+pub(crate) fn list(alloc: Global, args: &[Value]) -> Result<Answer, AllocError>
+    ensures { IfOk result (λ r. r ≡ list_answer (data_of args.now)) }
+{
+    match List::of(alloc, args) {
+        Ok(list) => Ok(Ok(Value::List(list))),
+        Err(ListRefusal::TooBig) => Ok(Err(Bad::TooBig)),
+        Err(ListRefusal::Memory(e)) => Err(e),
+    }
+}
+
+fn put_first(alloc: Global, item: &Value, rest: &List) -> Result<Answer, AllocError>
+    ensures { IfOk result (λ r. r ≡ list_answer (datum_of item.now ∷ rest.now)) }
+{
+    match List::cons(alloc, item, rest) {
+        Ok(list) => Ok(Ok(Value::List(list))),
+        Err(ListRefusal::TooBig) => Ok(Err(Bad::TooBig)),
+        Err(ListRefusal::Memory(e)) => Err(e),
+    }
+}
+
+/// The list of the first argument and then the items of the second.
+pub(crate) fn cons(alloc: Global, args: &[Value]) -> Result<Answer, AllocError>
+    ensures { IfOk result (λ r. r ≡ two (λ v w. on_list (λ ds. list_answer (datum_of v ∷ ds)) w) args.now) }
+{
+    match args {
+        [item, Value::List(rest)] => put_first(alloc, item, rest),
+        [_, _] => Ok(Err(Bad::WrongType)),
+        _ => Ok(Err(Bad::Arity)),
+    }
+}
+
+/// The same value as an answer.
+fn shared(value: &Value) -> Result<Answer, AllocError>
+    ensures { IfOk result (λ r. r ≡ Ok value.now) }
+{
+    Ok(Ok(value.share()?))
+}
+
+fn first_item(list: &List) -> Result<Answer, AllocError>
+    ensures { IfOk result (λ r. r ≡ car_of list.now) }
+{
+    let Some((first, _)) = list.items().split_first() else {
+        return Ok(Err(Bad::Empty));
+    };
+    shared(first)
+}
+
+/// The first item of the one argument.
+pub(crate) fn car(args: &[Value]) -> Result<Answer, AllocError>
+    ensures { IfOk result (λ r. r ≡ one (on_list car_of) args.now) }
+{
+    match args {
+        [Value::List(list)] => first_item(list),
+        [_] => Ok(Err(Bad::WrongType)),
+        _ => Ok(Err(Bad::Arity)),
+    }
+}
+
+fn other_items(alloc: Global, list: &List) -> Result<Answer, AllocError>
+    ensures { IfOk result (λ r. r ≡ cdr_of list.now) }
+{
+    match list.rest(alloc)? {
+        None => Ok(Err(Bad::Empty)),
+        Some(rest) => Ok(Ok(Value::List(rest))),
+    }
+}
+
+/// The list behind the first item of the one argument.
+pub(crate) fn cdr(alloc: Global, args: &[Value]) -> Result<Answer, AllocError>
+    ensures { IfOk result (λ r. r ≡ one (on_list cdr_of) args.now) }
+{
+    match args {
+        [Value::List(list)] => other_items(alloc, list),
+        [_] => Ok(Err(Bad::WrongType)),
+        _ => Ok(Err(Bad::Arity)),
+    }
+}
+
+/// The number of items of the one argument.
+pub(crate) fn length_of(args: &[Value]) -> Answer
+    ensures { result ≡ one (on_list (λ ds. Ok (value.Int (pos (length ds))))) args.now }
+{
+    match args {
+        [Value::List(list)] => Ok(Value::Int(list.items().len() as i64)),
+        [_] => Err(Bad::WrongType),
+        _ => Err(Bad::Arity),
+    }
+}
+
+/// Appends one more owner of each item.
+fn push_shared(all: &mut Vec<Value>, items: &[Value]) -> Result<(), AllocError>
+    ensures { OnOk result (all.new.items ≡ all.old.items ++ items.now) }
+{
+    for item in items {
+        all.push(item.share()?)?;
+    }
+    Ok(())
+}
+
+/// The size of a list's items, and 0 for anything else.
+fn items_size(value: &Value) -> u32
+    ensures value { 1 + result ≡ data_size (items_of value.now) }
+    ensures small { result ≤ 1048575 }
+{
+    match value {
+        Value::List(list) => list.size() - 1,
+        _ => 0,
+    }
+}
+
+/// Whether the lists' items make a list within the limit on size.
+///
+/// It is asked before any item is shared, so that no more memory is taken than a list may have.
+fn are_small(lists: &[Value]) -> bool
+    ensures { result ≡ nat_le (data_size (joined lists.now)) 1048576 }
+{
+    let mut size: u32 = 1;
+    for value in lists {
+        size += items_size(value);
+        if size > 1_048_576 {
+            return false;
+        }
+    }
+    true
+}
+
+/// Appends one more owner of each item of each list.
+fn push_lists(all: &mut Vec<Value>, lists: &[Value]) -> Result<(), AllocError>
+    ensures { OnOk result (data_of all.new.items ≡ data_of all.old.items ++ joined lists.now) }
+{
+    for value in lists {
+        if let Value::List(list) = value {
+            push_shared(all, list.items())?;
+        }
+    }
+    Ok(())
+}
+
+fn join_lists(alloc: Global, lists: &[Value]) -> Result<Answer, AllocError>
+    ensures { IfOk result (λ r. r ≡ list_answer (joined lists.now)) }
+{
+    if !are_small(lists) {
+        return Ok(Err(Bad::TooBig));
+    }
+    let mut all = Vec::new(alloc);
+    push_lists(&mut all, lists)?;
+    list_of(alloc, all)
+}
+
+/// The lists that are the arguments, joined.
+pub(crate) fn append(alloc: Global, args: &[Value]) -> Result<Answer, AllocError>
+    ensures { IfOk result (λ r. r ≡ appended args.now) }
+{
+    if all_of(Kind::List, args) {
+        join_lists(alloc, args)
+    } else {
+        Ok(Err(Bad::WrongType))
+    }
+}
+
+fn turned(alloc: Global, list: &List) -> Result<Answer, AllocError>
+    ensures { IfOk result (λ r. r ≡ Ok (value.List (reverse list.now))) }
+{
+    let mut all = Vec::new(alloc);
+    push_shared(&mut all, list.items())?;
+    all.reverse();
+    list_of(alloc, all)
+}
+
+/// The items of the one argument from the last to the first.
+pub(crate) fn reverse(alloc: Global, args: &[Value]) -> Result<Answer, AllocError>
+    ensures { IfOk result (λ r. r ≡ one (on_list (λ ds. Ok (value.List (reverse ds)))) args.now) }
+{
+    match args {
+        [Value::List(list)] => turned(alloc, list),
+        [_] => Ok(Err(Bad::WrongType)),
+        _ => Ok(Err(Bad::Arity)),
+    }
+}
+
+fn item_from(list: &List, at: usize) -> Result<Answer, AllocError>
+    ensures { IfOk result (λ r. r ≡ item_answer (slice_get list.now at)) }
+{
+    match list.get(at) {
+        None => Ok(Err(Bad::Range)),
+        Some(item) => shared(item),
+    }
+}
+
+fn item_at(list: &List, at: i64) -> Result<Answer, AllocError>
+    ensures { IfOk result (λ r. r ≡ list_ref list.now at) }
+{
+    if at < 0 {
+        Ok(Err(Bad::Range))
+    } else {
+        item_from(list, at as usize)
+    }
+}
+
+/// The item of the first argument at the index that is the second.
+pub(crate) fn item(args: &[Value]) -> Result<Answer, AllocError>
+    ensures { IfOk result (λ r. r ≡ two (λ v w. on_list (λ ds. on_integer (list_ref ds) w) v) args.now) }
+{
+    match args {
+        [Value::List(list), Value::Int(at)] => item_at(list, *at),
+        [_, _] => Ok(Err(Bad::WrongType)),
+        _ => Ok(Err(Bad::Arity)),
+    }
+}
