@@ -1,0 +1,10 @@
+pub mod Words
+pub mod Prims
+pub mod Eval
+pub mod Texts
+pub mod Afresh
+pub mod Names
+pub mod Script
+pub mod Course
+pub mod Forms
+pub mod Accepted

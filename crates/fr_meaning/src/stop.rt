@@ -1,0 +1,38 @@
+use std::alloc::AllocError;
+
+/// Why a program is refused.
+#[derive(Clone, Copy, Debug, PartialEq, Eq)]
+pub enum ProgramKind {
+    /// The text has more than 1,048,576 bytes. The form is 0.
+    Length,
+    /// The text doesn't read as data from this form on.
+    Text,
+    /// The text reads, but isn't of the form that can be run today. The form is 0.
+    Unbuilt,
+}
+
+/// Why a line of a script is refused.
+#[derive(Clone, Copy, Debug, PartialEq, Eq)]
+pub enum LineKind {
+    /// The script isn't of the form that can be read today.
+    Unbuilt,
+}
+
+/// Why a command stopped before its end.
+#[derive(Debug, Drop)]
+pub enum Stop {
+    /// The words are no command.
+    Usage,
+    /// The program is refused at this form, counted from 1; form 0 is the text as a whole.
+    Program { form: u32, kind: ProgramKind },
+    /// The script is refused at this line, counted from 1; line 0 is the script as a whole.
+    Script { line: u64, kind: LineKind },
+    /// The instant of this time errs.
+    Evaluation(u64),
+    /// A file couldn't be read.
+    Read,
+    /// The output couldn't be written.
+    Write,
+    /// There was no memory.
+    Memory(AllocError),
+}
