@@ -1,0 +1,6 @@
+mod Openings
+mod Distinct
+mod Programs
+mod Cuts
+mod Numerals
+mod Instants
