@@ -1,0 +1,5 @@
+pub mod Writing
+pub mod Courses
+pub mod Sessions
+pub mod Runs
+pub mod Statuses

@@ -1,0 +1,103 @@
+-- What a status says, by the stop that it stands for.
+use Rattle.std.proofs.Common.{◌≡◌, ◌∙◌, ℕ, ◌≤◌, List, length, take, drop, ap, sym, refl, subst, arith, None, Some, IfSome, Option}
+use Rattle.std.proofs.lemmas.List.{take_all, length-take, take-append-le, take-append-drop}
+use Rattle.std.specs.Io.KnownBytes.{Appends}
+use Rattle.fr_meaning.specs.declared.stop.Stop.{Stop}
+use Rattle.fr_meaning.specs.declared.stop.Stop.TheVariants.{Usage, Script, Evaluation, Program, Read, Write, Memory}
+use Rattle.fr_meaning.specs.Accepted.{course_of, OnCourse, OnEachCourse}
+use Rattle.fr_meaning.specs.Course.{Course, joined}
+use Rattle.fr_cli.specs.Command.{Command, run, OnCommand, OnEachCommand}
+use Rattle.fr_cli.specs.Ends.{StopSays, SaysOn, EndsThere, AppendsWhole, RefusesProgram, RefusesScript, Errs}
+use Rattle.fr_cli.specs.Lines.{status_of}
+use Rattle.fr_cli.proofs.Runs.{each_of}
+
+some_map : (o : Option Course) (F G : Course → Type 0) → ((c : Course) → F c → G c) → IfSome o F → IfSome o G
+some_map None F G h k = tt
+some_map (Some c) F G h k = h c k
+
+course_map : (program script : Option (List ℕ)) (F G : Course → Type 0) → ((c : Course) → F c → G c) → OnCourse program script F → OnCourse program script G
+course_map None script F G h k = tt
+course_map (Some bytes) script F G h k = (k.0, k.1, some_map (course_of k.0 script) F G h k.2)
+
+-- what follows of a course follows of the course of the words
+on_map : (w : Option Command) (holds : List ℕ → Option (List ℕ)) (F G : Course → Type 0) → ((c : Course) → F c → G c) → OnCommand w holds F → OnCommand w holds G
+on_map None holds F G h k = h _ k
+on_map (Some (run p s)) holds F G h k = course_map (holds p) (holds s) F G h k
+
+each_map : (program script : Option (List ℕ)) (F G : Course → Type 0) → ((c : Course) → F c → G c) → OnEachCourse program script F → OnEachCourse program script G
+each_map None script F G h k = tt
+each_map (Some bytes) script F G h k = λ v is. some_map (course_of v script) F G h (k v is)
+
+-- what follows of each course follows of each course of the words
+on_each_map : (w : Option Command) (holds : List ℕ → Option (List ℕ)) (F G : Course → Type 0) → ((c : Course) → F c → G c) → OnEachCommand w holds F → OnEachCommand w holds G
+on_each_map None holds F G h k = h _ k
+on_each_map (Some (run p s)) holds F G h k = each_map (holds p) (holds s) F G h k
+
+on_to_each : (w : Option Command) (holds : List ℕ → Option (List ℕ)) (F : Course → Type 0) → OnCommand w holds F → OnEachCommand w holds F
+on_to_each None holds F k = k
+on_to_each (Some (run p s)) holds F k = each_of (holds p) (holds s) F k
+
+-- what a stop of a command says
+abbrev pub Says : Stop → Option Command → (List ℕ → Option (List ℕ)) → Option (List ℕ) → Option (List ℕ) → Type 0
+Says stop w holds x y = SaysOn stop (OnCommand w holds) (OnEachCommand w holds) x y
+
+-- what a status says of the course
+pub says_program : (stop : Stop) (w : Option Command) (holds : List ℕ → Option (List ℕ)) (x y : Option (List ℕ)) → status_of stop ≡ 2 → Says stop w holds x y
+    → OnCommand w holds (λ c. RefusesProgram c x y)
+says_program Usage w holds x y e s = absurd (omega (arith, e))
+says_program (Program f k) w holds x y e s = on_map w holds (λ c. StopSays (Program f k) c x y) (λ c. RefusesProgram c x y) (λ c h. (f, k, h)) s
+says_program (Script n k) w holds x y e s = absurd (omega (arith, e))
+says_program (Evaluation t) w holds x y e s = absurd (omega (arith, e))
+says_program Read w holds x y e s = absurd (omega (arith, e))
+says_program Write w holds x y e s = absurd (omega (arith, e))
+says_program (Memory m) w holds x y e s = absurd (omega (arith, e))
+
+pub says_script : (stop : Stop) (w : Option Command) (holds : List ℕ → Option (List ℕ)) (x y : Option (List ℕ)) → status_of stop ≡ 3 → Says stop w holds x y
+    → OnCommand w holds (λ c. RefusesScript c x y)
+says_script Usage w holds x y e s = absurd (omega (arith, e))
+says_script (Program f k) w holds x y e s = absurd (omega (arith, e))
+says_script (Script n k) w holds x y e s = on_map w holds (λ c. StopSays (Script n k) c x y) (λ c. RefusesScript c x y) (λ c h. (n, k, h)) s
+says_script (Evaluation t) w holds x y e s = absurd (omega (arith, e))
+says_script Read w holds x y e s = absurd (omega (arith, e))
+says_script Write w holds x y e s = absurd (omega (arith, e))
+says_script (Memory m) w holds x y e s = absurd (omega (arith, e))
+
+pub says_errs : (stop : Stop) (w : Option Command) (holds : List ℕ → Option (List ℕ)) (x y : Option (List ℕ)) → status_of stop ≡ 4 → Says stop w holds x y
+    → OnCommand w holds (λ c. Errs c x y)
+says_errs Usage w holds x y e s = absurd (omega (arith, e))
+says_errs (Program f k) w holds x y e s = absurd (omega (arith, e))
+says_errs (Script n k) w holds x y e s = absurd (omega (arith, e))
+says_errs (Evaluation t) w holds x y e s = on_map w holds (λ c. StopSays (Evaluation t) c x y) (λ c. Errs c x y) (λ c h. (t, h)) s
+says_errs Read w holds x y e s = absurd (omega (arith, e))
+says_errs Write w holds x y e s = absurd (omega (arith, e))
+says_errs (Memory m) w holds x y e s = absurd (omega (arith, e))
+
+-- all texts are a whole number of them
+all_whole : (c : Course) (x y : Option (List ℕ)) → Appends x y (joined c.texts) → AppendsWhole x y c.texts
+all_whole c x y h = (length c.texts, omega arith, subst (λ (ts : List (List ℕ)). Appends x y (joined ts)) (sym (take_all (length c.texts) c.texts (omega arith))) h)
+
+take_first : (ts : List (List ℕ)) (k : ℕ) → k ≤ length (take 1 ts) → take k (take 1 ts) ≡ take k ts
+take_first ts k le = sym (take-append-le k (take 1 ts) (drop 1 ts) le) ∙ ap (λ (us : List (List ℕ)). take k us) (take-append-drop 1 ts)
+
+first_whole : (texts : List (List ℕ)) (x y : Option (List ℕ)) → AppendsWhole x y (take 1 texts) → AppendsWhole x y texts
+first_whole texts x y (k, le, h) =
+    (k, omega (arith, length-take 1 texts, le), subst (λ (us : List (List ℕ)). Appends x y (joined us)) (take_first texts k le) h)
+
+ends_whole : (stop : Option Stop) (w : Option Command) (holds : List ℕ → Option (List ℕ)) (x y : Option (List ℕ)) → OnCommand w holds (λ c. EndsThere stop c x y)
+    → OnEachCommand w holds (λ c. AppendsWhole x y c.texts)
+ends_whole stop w holds x y s =
+    on_each_map w holds (λ c. EndsThere stop c x y) (λ c. AppendsWhole x y c.texts) (λ c h. all_whole c x y h.1) (on_to_each w holds (λ c. EndsThere stop c x y) s)
+
+pub done_whole : (w : Option Command) (holds : List ℕ → Option (List ℕ)) (x y : Option (List ℕ)) → OnCommand w holds (λ c. EndsThere None c x y)
+    → OnEachCommand w holds (λ c. AppendsWhole x y c.texts)
+done_whole w holds x y s = ends_whole None w holds x y s
+
+pub says_whole : (stop : Stop) (w : Option Command) (holds : List ℕ → Option (List ℕ)) (x y : Option (List ℕ)) → (status_of stop ≡ 7 → ⊥) → Says stop w holds x y
+    → OnEachCommand w holds (λ c. AppendsWhole x y c.texts)
+says_whole Usage w holds x y e s = ends_whole (Some Usage) w holds x y s
+says_whole (Program f k) w holds x y e s = ends_whole (Some (Program f k)) w holds x y s
+says_whole (Script n k) w holds x y e s = ends_whole (Some (Script n k)) w holds x y s
+says_whole (Evaluation t) w holds x y e s = ends_whole (Some (Evaluation t)) w holds x y s
+says_whole Read w holds x y e s = on_each_map w holds (λ c. StopSays Read c x y) (λ c. AppendsWhole x y c.texts) (λ c h. first_whole c.texts x y h) s
+says_whole Write w holds x y e s = absurd (e refl)
+says_whole (Memory m) w holds x y e s = s

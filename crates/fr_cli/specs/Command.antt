@@ -1,0 +1,56 @@
+-- The commands, and the course of each.
+use Rattle.std.specs.Prelude.{ℕ, ◌≢◌, ◌&&◌, length, IfSome, ◌==◌, not, Bool, true, if◌then◌else◌, List, [], ◌∷◌, Option, Some, None, codes, ◌⊎◌}
+use Rattle.std.specs.Str.{bytes_eq}
+use Rattle.fr_io.specs.Faults.{Rose}
+use Rattle.fr_io.specs.Files.{ReachesFront}
+use Rattle.fr_meaning.specs.declared.stop.Stop.TheVariants.{Usage}
+use Rattle.fr_meaning.specs.Course.{Course, stopped}
+use Rattle.fr_meaning.specs.Accepted.{OnCourse, OnEachCourse}
+
+-- a command with the names of its files
+pub data Command : Type 0 where
+  run : List ℕ → List ℕ → Command
+
+-- whether a word can name a file: it doesn't begin with `-`
+abbrev pub names_file : List ℕ → Bool
+names_file [] = true
+names_file (b ∷ bs) = not (b == 45)
+
+-- the command that the words are: `run PROGRAM SCRIPT`
+abbrev pub command_of : List (List ℕ) → Option Command
+command_of (word ∷ program ∷ script ∷ []) = if bytes_eq word (codes "run") && (names_file program && names_file script) then Some (run program script) else None
+command_of _ = None
+
+abbrev pub OnCommand : Option Command → (List ℕ → Option (List ℕ)) → (Course → Type 0) → Type 0
+OnCommand None holds F = F (stopped (Some Usage))
+OnCommand (Some (run program script)) holds F = OnCourse (holds program) (holds script) F
+
+-- the fact holds of the course of the words, where what the shelf tells of their files settles it
+abbrev pub OnWords : List (List ℕ) → (List ℕ → Option (List ℕ)) → (Course → Type 0) → Type 0
+OnWords words holds F = OnCommand (command_of words) holds F
+
+abbrev pub OnEachCommand : Option Command → (List ℕ → Option (List ℕ)) → (Course → Type 0) → Type 0
+OnEachCommand None holds F = F (stopped (Some Usage))
+OnEachCommand (Some (run program script)) holds F = OnEachCourse (holds program) (holds script) F
+
+-- the same where the program's file may not have been judged
+abbrev pub OnEachWords : List (List ℕ) → (List ℕ → Option (List ℕ)) → (Course → Type 0) → Type 0
+OnEachWords words holds F = OnEachCommand (command_of words) holds F
+
+-- the script that a command names was read to its end, where that is told and no other word names the same file
+abbrev pub ReadsToEnd : Option Command → (List ℕ → Option (List ℕ)) → (List ℕ → Option ℕ) → (List ℕ → Option ℕ) → Type 0
+ReadsToEnd None holds before now = Unit {0}
+ReadsToEnd (Some (run program script)) holds before now = script ≢ program → IfSome (holds script) (λ file. ReachesFront (before script) (now script) (length file))
+
+abbrev pub files_in : Option Command → List (List ℕ)
+files_in None = []
+files_in (Some (run program script)) = program ∷ script ∷ []
+
+-- the files that the words name
+abbrev pub files_of : List (List ℕ) → List (List ℕ)
+files_of words = files_in (command_of words)
+
+-- the count of one of these files rose
+abbrev pub AnyRose : List (List ℕ) → (List ℕ → ℕ) → (List ℕ → ℕ) → Type 0
+AnyRose [] before now = ⊥
+AnyRose (f ∷ fs) before now = Rose (before f) (now f) ⊎ AnyRose fs before now

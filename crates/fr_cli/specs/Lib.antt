@@ -1,0 +1,4 @@
+pub mod Command
+pub mod Ends
+pub mod Lines
+pub mod Told

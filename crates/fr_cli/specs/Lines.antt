@@ -1,0 +1,61 @@
+-- The status and the line of each stop.
+use Rattle.std.specs.Prelude.{◌≡◌, ℕ, List, ◌++◌, Option, Some, None, codes, decimal}
+use Rattle.std.specs.Io.KnownBytes.{Appends}
+use Rattle.fr_io.specs.Faults.{Rose}
+use Rattle.fr_io.specs.Files.{AppendsSome}
+use Rattle.fr_meaning.specs.declared.stop.Stop.{Stop}
+use Rattle.fr_meaning.specs.declared.stop.Stop.TheVariants.{Usage, Program, Script, Evaluation, Read, Write, Memory}
+use Rattle.fr_meaning.specs.declared.stop.ProgramKind.{ProgramKind}
+use Rattle.fr_meaning.specs.declared.stop.ProgramKind.TheVariants as program_kind
+use Rattle.fr_meaning.specs.declared.stop.LineKind.{LineKind}
+use Rattle.fr_meaning.specs.declared.stop.LineKind.TheVariants as line_kind
+use Rattle.fr_cli.specs.Command.{OnWords, OnEachWords}
+use Rattle.fr_cli.specs.Ends.{SaysOn}
+
+abbrev pub status_of : Stop → ℕ
+status_of Usage = 1
+status_of (Program form kind) = 2
+status_of (Script line kind) = 3
+status_of (Evaluation time) = 4
+status_of Read = 6
+status_of Write = 7
+status_of (Memory e) = 8
+
+-- the status of a course's own end
+abbrev pub status_of_end : Option Stop → ℕ
+status_of_end None = 0
+status_of_end (Some stop) = status_of stop
+
+abbrev pub program_word : ProgramKind → List ℕ
+program_word program_kind.Length = codes "length"
+program_word program_kind.Text = codes "text"
+program_word program_kind.Unbuilt = codes "unbuilt"
+
+abbrev pub line_word : LineKind → List ℕ
+line_word line_kind.Unbuilt = codes "unbuilt"
+
+-- how the line of a refusal ends
+abbrev pub refusal_end : List ℕ → List ℕ
+refusal_end word = codes ": " ++ word ++ codes "\n"
+
+-- the line of a stop, with its newline
+unfoldable pub line_of : Stop → List ℕ
+line_of Usage = codes "usage\n"
+line_of (Program form kind) = codes "program refused at form " ++ decimal form ++ refusal_end (program_word kind)
+line_of (Script line kind) = codes "script refused at line " ++ decimal line ++ refusal_end (line_word kind)
+line_of (Evaluation time) = codes "evaluation error at time " ++ decimal time ++ codes "\n"
+line_of Read = codes "read fault\n"
+line_of Write = codes "write fault\n"
+line_of (Memory e) = codes "no memory\n"
+
+-- some first bytes of the line were appended, and all of it where the count didn't rise
+pub record Tells (line : List ℕ) (old new : Option (List ℕ)) (before now : ℕ) : Type 0 where
+  pub some : AppendsSome old new line
+  pub whole : (Rose before now → ⊥) → Appends old new line
+
+-- what a status other than 0 stands for: a stop, what it says of the course of the words, and its line
+pub record Stopped (status : ℕ) (words : List (List ℕ)) (holds : List ℕ → Option (List ℕ)) (out_old out_new err_old err_new : Option (List ℕ)) (before now : ℕ) : Type 0 where
+  pub stop : Stop
+  pub status_is : status ≡ status_of stop
+  pub says : SaysOn stop (OnWords words holds) (OnEachWords words holds) out_old out_new
+  pub line : Tells (line_of stop) err_old err_new before now

@@ -1,0 +1,107 @@
+ghost use Rattle.std.specs.Prelude.{◌≡◌, ◌≤◌, ◌++◌, ℕ, OnOk, OnErr, decimal};
+ghost use Rattle.std.specs.Io.KnownBytes.{Appends};
+ghost use Rattle.fr_io.specs.Faults.{Rose};
+ghost use Rattle.fr_io.specs.Files.{AppendsSome};
+ghost use Rattle.fr_cli.specs.Lines.{status_of, line_of, refusal_end, program_word, line_word, Tells};
+
+use fr_io::{Failed, Sink, write_all};
+use fr_meaning::{LineKind, ProgramKind, Stop};
+use itoa::Buffer;
+
+/// The exit status of a stop.
+pub fn status(stop: &Stop) -> u8
+    ensures { result ≡ status_of stop.now }
+{
+    match stop {
+        Stop::Usage => 1,
+        Stop::Program { form: _, kind: _ } => 2,
+        Stop::Script { line: _, kind: _ } => 3,
+        Stop::Evaluation(_) => 4,
+        Stop::Read => 6,
+        Stop::Write => 7,
+        Stop::Memory(_) => 8,
+    }
+}
+
+/// Writes the line of a stop, as far as that goes. It asks for no memory, so that only a fault can cut the line.
+pub fn tell<E: Sink>(stop: &Stop, err: &mut E)
+    ensures line { Tells (line_of stop.now) (E.written err.old) (E.written err.new) (E.faults err.old) (E.faults err.new) }
+    ensures counts { E.faults err.old ≤ E.faults err.new }
+{
+    let _ = write_line(stop, err);
+}
+
+/// Writes the line of a stop.
+#[tactic(auto, unfolding(crate::specs::Lines::line_of))]
+fn write_line<E: Sink>(stop: &Stop, err: &mut E) -> Result<(), Failed>
+    ensures ok { OnOk result (Appends (E.written err.old) (E.written err.new) (line_of stop.now)) }
+    ensures err { OnErr result (AppendsSome (E.written err.old) (E.written err.new) (line_of stop.now)) }
+    ensures counts { E.faults err.old ≤ E.faults err.new }
+    ensures cause { OnErr result (Rose (E.faults err.old) (E.faults err.new)) }
+{
+    match stop {
+        Stop::Program { form, kind } => {
+            write_place(
+                err,
+                b"program refused at form ",
+                *form as u64,
+                program_end(*kind),
+            )
+        }
+        Stop::Script { line, kind } => {
+            write_place(err, b"script refused at line ", *line, line_end(*kind))
+        }
+        Stop::Evaluation(time) => write_place(err, b"evaluation error at time ", *time, b"\n"),
+        Stop::Usage => write_all(err, b"usage\n"),
+        Stop::Read => write_all(err, b"read fault\n"),
+        Stop::Write => write_all(err, b"write fault\n"),
+        Stop::Memory(_) => write_all(err, b"no memory\n"),
+    }
+}
+
+/// Writes a line that names a place by its number.
+fn write_place<E: Sink>(
+    err: &mut E,
+    before: &[u8],
+    number: u64,
+    behind: &[u8],
+) -> Result<(), Failed>
+    ensures ok { OnOk result (Appends (E.written err.old) (E.written err.new) (before.now ++ decimal number ++ behind.now)) }
+    ensures err { OnErr result (AppendsSome (E.written err.old) (E.written err.new) (before.now ++ decimal number ++ behind.now)) }
+    ensures counts { E.faults err.old ≤ E.faults err.new }
+    ensures cause { OnErr result (Rose (E.faults err.old) (E.faults err.new)) }
+{
+    let mut buffer = Buffer::new();
+    match write_all(err, before) {
+        Ok(()) => {}
+        Err(fault) => return Err(fault),
+    }
+    match write_all(err, buffer.format(number).as_bytes()) {
+        Ok(()) => {}
+        Err(fault) => return Err(fault),
+    }
+    match write_all(err, behind) {
+        Ok(()) => Ok(()),
+        Err(fault) => Err(fault),
+    }
+}
+
+/// How the line of a refused program ends.
+fn program_end(kind: ProgramKind) -> &'static [u8]
+    ensures { result.now ≡ refusal_end (program_word kind) }
+{
+    match kind {
+        ProgramKind::Length => b": length\n",
+        ProgramKind::Text => b": text\n",
+        ProgramKind::Unbuilt => b": unbuilt\n",
+    }
+}
+
+/// How the line of a refused script ends.
+fn line_end(kind: LineKind) -> &'static [u8]
+    ensures { result.now ≡ refusal_end (line_word kind) }
+{
+    match kind {
+        LineKind::Unbuilt => b": unbuilt\n",
+    }
+}

@@ -1,0 +1,144 @@
+ghost use Rattle.std.specs.Prelude.{◌≡◌, ◌≢◌, ◌≤◌, ◌<◌, ◌+◌, ◌^◌, ◌↔◌, ◌⊎◌, ℕ, List, length, Option, None, Some, map, take, string_bytes, IfErr, IfSome, OnOk, IsErrOf};
+ghost use Rattle.std.specs.Io.KnownBytes.{Appends};
+ghost use Rattle.fr_io.specs.Faults.{Rose, NoneFalls};
+ghost use Rattle.fr_io.specs.Files.{AppendsSome, ReachesFront};
+ghost use Rattle.fr_meaning.specs.Accepted.{OnCourse, OnEachCourse};
+ghost use Rattle.fr_meaning.specs.Course.{Course, joined};
+ghost use Rattle.fr_cli.specs.Command.{command_of, OnWords, OnEachWords, files_of, AnyRose, ReadsToEnd};
+ghost use Rattle.fr_cli.specs.Told.{unaccepted};
+ghost use Rattle.fr_cli.specs.Ends.{EndsThere, SaysOn, AppendsWhole, RefusesProgram, RefusesScript, Errs};
+ghost use Rattle.fr_cli.specs.Lines.{status_of_end, Stopped};
+
+use crate::command::command;
+use crate::session::{LIMIT, session};
+use crate::telling::{status, tell};
+use fr_first::{AcceptStop, accept};
+use fr_io::{ReadStop, Shelf, Sink, read_up_to};
+use fr_meaning::Stop;
+use std::alloc::Global;
+
+/// The stop of a program that isn't accepted.
+fn stop_of(stop: AcceptStop) -> Stop
+    ensures { result ≡ unaccepted stop }
+{
+    match stop {
+        AcceptStop::Memory(e) => Stop::Memory(e),
+        AcceptStop::Refused { form, kind } => Stop::Program { form, kind },
+    }
+}
+
+/// Reads and judges the program, and runs it over the script.
+fn run<S: Shelf, O: Sink>(
+    alloc: Global,
+    program: &str,
+    script: &str,
+    shelf: &mut S,
+    out: &mut O,
+) -> Result<(), Stop>
+    ensures ok { OnOk result (OnCourse (S.holds shelf.old program.now) (S.holds shelf.old script.now) (λ c. EndsThere None c (O.written out.old) (O.written out.new))) }
+    ensures err { IfErr result (λ stop. SaysOn stop (OnCourse (S.holds shelf.old program.now) (S.holds shelf.old script.now)) (OnEachCourse (S.holds shelf.old program.now) (S.holds shelf.old script.now)) (O.written out.old) (O.written out.new)) }
+    ensures to_end { OnOk result (script.now ≢ program.now → IfSome (S.holds shelf.old script.now) (λ file. ReachesFront (S.reached shelf.old script.now) (S.reached shelf.new script.now) (length file))) }
+    ensures shelf_counts { NoneFalls (S.faults shelf.old) (S.faults shelf.new) }
+    ensures out_counts { O.faults out.old ≤ O.faults out.new }
+    ensures read_fault { IsErrOf result Stop.Read → Rose (S.faults shelf.old program.now) (S.faults shelf.new program.now) ⊎ Rose (S.faults shelf.old script.now) (S.faults shelf.new script.now) }
+    ensures write_fault { IsErrOf result Stop.Write → Rose (O.faults out.old) (O.faults out.new) }
+    ensures no_usage { IsErrOf result Stop.Usage → ⊥ }
+{
+    let bytes = match read_up_to(alloc, shelf, program, LIMIT) {
+        Ok(bytes) => bytes,
+        Err(ReadStop::Memory(e)) => return Err(Stop::Memory(e)),
+        Err(ReadStop::Failed) => return Err(Stop::Read),
+    };
+    let program = match accept(alloc, &bytes) {
+        Ok(program) => program,
+        Err(stop) => return Err(stop_of(stop)),
+    };
+    match session(alloc, program, script, shelf, out) {
+        Ok(()) => Ok(()),
+        Err(stop) => Err(stop),
+    }
+}
+
+/// Does what the words ask for.
+fn obey<S: Shelf, O: Sink>(
+    alloc: Global,
+    words: &[String],
+    shelf: &mut S,
+    out: &mut O,
+) -> Result<(), Stop>
+    ensures ok { OnOk result (OnWords (map string_bytes words.now) (S.holds shelf.old) (λ c. EndsThere None c (O.written out.old) (O.written out.new))) }
+    ensures err { IfErr result (λ stop. SaysOn stop (OnWords (map string_bytes words.now) (S.holds shelf.old)) (OnEachWords (map string_bytes words.now) (S.holds shelf.old)) (O.written out.old) (O.written out.new)) }
+    ensures to_end { OnOk result (ReadsToEnd (command_of (map string_bytes words.now)) (S.holds shelf.old) (S.reached shelf.old) (S.reached shelf.new)) }
+    ensures usage { IsErrOf result Stop.Usage ↔ (command_of (map string_bytes words.now) ≡ None) }
+    ensures read_fault { IsErrOf result Stop.Read → AnyRose (files_of (map string_bytes words.now)) (S.faults shelf.old) (S.faults shelf.new) }
+    ensures write_fault { IsErrOf result Stop.Write → Rose (O.faults out.old) (O.faults out.new) }
+{
+    match command(words) {
+        None => Err(Stop::Usage),
+        Some(files) => match run(alloc, files.program, files.script, shelf, out) {
+            Ok(()) => Ok(()),
+            Err(stop) => Err(stop),
+        },
+    }
+}
+
+/// The top call. `words` are the words after the program's name: `run PROGRAM SCRIPT` runs the program in the first file
+/// over the script in the second, and appends to `out`, at instant 0 and at each instant of the script, the displayed
+/// values that have changed. The answer is the exit status; for each but 0, one line on `err` tells why:
+///
+/// | Status | Line | Comes |
+/// |---|---|---|
+/// | 0 | none | everything was read to its end, run and written |
+/// | 1 | `usage` | exactly where the words are no command |
+/// | 2 | `program refused at form K: KIND` | exactly where the program is refused so |
+/// | 3 | `script refused at line L: KIND` | exactly where the script is refused so, and no earlier stop came |
+/// | 4 | `evaluation error at time T` | exactly where that instant is the first that errs, and no earlier stop came |
+/// | 6 | `read fault` | only where the count of a file that the words name rose |
+/// | 7 | `write fault` | only where the count of `out` rose |
+/// | 8 | `no memory` | where there was none |
+///
+/// Nothing that was written is taken back, and an instant's text is written only when the whole instant is done.
+pub fn frtime<S: Shelf, O: Sink, E: Sink>(
+    alloc: Global,
+    words: &[String],
+    shelf: &mut S,
+    out: &mut O,
+    err: &mut E,
+) -> u8
+    // The headline: at status 0 exactly the bytes of evaluating the whole program afresh at every instant were written,
+    // over the whole script.
+    ensures headline { result ≡ 0 → OnWords (map string_bytes words.now) (S.holds shelf.old) (λ c. EndsThere None c (O.written out.old) (O.written out.new)) }
+    ensures read_to_end { result ≡ 0 → ReadsToEnd (command_of (map string_bytes words.now)) (S.holds shelf.old) (S.reached shelf.old) (S.reached shelf.new) }
+    ensures silent { result ≡ 0 → E.written err.new ≡ E.written err.old }
+    // Where no file that the words name and not `out` fails, the status is that of the course's own end, or there was no
+    // memory.
+    ensures complete { (AnyRose (files_of (map string_bytes words.now)) (S.faults shelf.old) (S.faults shelf.new) → ⊥) → (Rose (O.faults out.old) (O.faults out.new) → ⊥) →
+        OnWords (map string_bytes words.now) (S.holds shelf.old) (λ c. result ≡ status_of_end c.stop) ⊎ (result ≡ 8) }
+
+    // The cause of each other status.
+    ensures usage { (result ≡ 1) ↔ (command_of (map string_bytes words.now) ≡ None) }
+    ensures program_refused { result ≡ 2 → OnWords (map string_bytes words.now) (S.holds shelf.old) (λ c. RefusesProgram c (O.written out.old) (O.written out.new)) }
+    ensures script_refused { result ≡ 3 → OnWords (map string_bytes words.now) (S.holds shelf.old) (λ c. RefusesScript c (O.written out.old) (O.written out.new)) }
+    ensures evaluation_error { result ≡ 4 → OnWords (map string_bytes words.now) (S.holds shelf.old) (λ c. Errs c (O.written out.old) (O.written out.new)) }
+    ensures read_fault { result ≡ 6 → AnyRose (files_of (map string_bytes words.now)) (S.faults shelf.old) (S.faults shelf.new) }
+    ensures write_fault { result ≡ 7 → Rose (O.faults out.old) (O.faults out.new) }
+
+    // What was written: the texts of a whole number of instants, and after a write fault some first bytes.
+    ensures whole_instants { result ≢ 7 → OnEachWords (map string_bytes words.now) (S.holds shelf.old) (λ c. AppendsWhole (O.written out.old) (O.written out.new) c.texts) }
+    ensures first_bytes { result ≡ 7 → OnWords (map string_bytes words.now) (S.holds shelf.old) (λ c. AppendsSome (O.written out.old) (O.written out.new) (joined c.texts)) }
+
+    // Each status but 0 is that of a stop, which says of the course how it ends or what of it was written, and `err` got
+    // its line, or where it fails some first bytes of it.
+    ensures stopped { result ≢ 0 → Stopped result (map string_bytes words.now) (S.holds shelf.old) (O.written out.old) (O.written out.new) (E.written err.old) (E.written err.new) (E.faults err.old) (E.faults err.new) }
+{
+    match obey(alloc, words, shelf, out) {
+        Ok(()) => 0,
+        Err(stop) => {
+            tell(&stop, err);
+            status(&stop)
+        }
+    }
+}
+
+#[cfg(test)]
+mod tests;
