@@ -1,0 +1,1 @@
+(define-input x 1)(show y (+ x 1))
