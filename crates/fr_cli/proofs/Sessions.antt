@@ -50,6 +50,12 @@ front_by p bytes false h =
 pub script_front : (p : Source) (bytes : List ℕ) → script_of p (take 1048577 bytes) ≡ script_of p bytes
 script_front p bytes = front_by p bytes (nat_le (length bytes) 1048576) refl
 
+-- what the code read, by steps, is what the definition reads of the bytes
+pub as_read : (found wanted : Option (List Inputs)) (p q : Source) (bytes seen : List ℕ) → wanted ≡ found → found ≡ script_of q seen → q ≡ p → seen ≡ bytes
+    → wanted ≡ script_of p bytes
+as_read found wanted p q bytes seen same read program items =
+    same ∙ read ∙ ap (λ (r : Source). script_of r seen) program ∙ ap (λ (b : List ℕ). script_of p b) items
+
 -- a fact of the course over the script that was read is one of the course over the file
 pub of_script : (held : Option (List ℕ)) (bytes : List ℕ) (p : Source) (s : State) (o : Option (List Inputs)) (F : Course → Type 0)
     → IfSome held (λ file. bytes ≡ take 1048577 file) → o ≡ script_of p bytes → F (over_script p o s) → IfSome held (λ file. F (over_script p (script_of p file) s))

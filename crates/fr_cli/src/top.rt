@@ -1,9 +1,8 @@
-ghost use Rattle.std.specs.Prelude.{◌≡◌, ◌≢◌, ◌≤◌, ◌<◌, ◌+◌, ◌^◌, ◌↔◌, ◌⊎◌, ℕ, List, length, Option, None, Some, map, take, string_bytes, IfErr, IfSome, OnOk, IsErrOf};
-ghost use Rattle.std.specs.Io.KnownBytes.{Appends};
+ghost use Rattle.std.specs.Prelude.{◌≡◌, ◌≢◌, ◌≤◌, ◌↔◌, ◌⊎◌, length, None, map, string_bytes, IfErr, IfSome, OnOk, IsErrOf};
 ghost use Rattle.fr_io.specs.Faults.{Rose, NoneFalls};
 ghost use Rattle.fr_io.specs.Files.{AppendsSome, ReachesFront};
 ghost use Rattle.fr_meaning.specs.Accepted.{OnCourse, OnEachCourse};
-ghost use Rattle.fr_meaning.specs.Course.{Course, joined};
+ghost use Rattle.fr_meaning.specs.Course.{joined};
 ghost use Rattle.fr_cli.specs.Command.{command_of, OnWords, OnEachWords, files_of, AnyRose, ReadsToEnd};
 ghost use Rattle.fr_cli.specs.Told.{unaccepted};
 ghost use Rattle.fr_cli.specs.Ends.{EndsThere, SaysOn, AppendsWhole, RefusesProgram, RefusesScript, Errs};

@@ -1,9 +1,7 @@
 -- One level of an expression's number.
-use Rattle.std.proofs.Common.{◌≡◌, ◌≢◌, ℕ, zero, suc, ◌-◌, List, ℤ, None, refl, ap, sym, ◌∙◌, sub-one}
-use Rattle.fr_meaning.specs.declared.program.Core.{Core, out-Core, out-roll-Core}
+use Rattle.std.proofs.Common.{◌≡◌, ◌≢◌, ℕ, zero, suc, ◌-◌, List, ℤ, None, refl, ap, sub-one}
+use Rattle.fr_meaning.specs.declared.program.Core.{Core, out-Core}
 use Rattle.fr_meaning.specs.declared.program.Core.TheOpen.{Core-F}
-use Rattle.fr_meaning.specs.declared.program.Core.TheVariants as core
-use Rattle.fr_meaning.specs.declared.program.Core.TheVariants.{rolls-Lit, rolls-Input, rolls-Add}
 use Rattle.fr_engine.specs.Numbers.{number_layer, number_to}
 
 pub number_at_zero : (n : ℕ) (inputs : List ℤ) (e : Core) → n ≡ 0 → number_to n inputs e ≡ None
@@ -14,12 +12,3 @@ pub number_at_level : (n : ℕ) (inputs : List ℤ) (e : Core) (l : Core-F Core)
 unfolding number_to
 number_at_level zero inputs e l some h = absurd (some refl)
 number_at_level (suc n) inputs e l some h = rw (sub-one (suc n)) (ap (number_layer inputs (number_to n inputs)) h)
-
-pub opens-Lit : (n : ℤ) → out-Core (core.Lit n) ≡ Core-F.Lit n
-opens-Lit n = ap out-Core (sym (rolls-Lit n)) ∙ out-roll-Core (Core-F.Lit n)
-
-pub opens-Input : (i : ℕ) → out-Core (core.Input i) ≡ Core-F.Input i
-opens-Input i = ap out-Core (sym (rolls-Input i)) ∙ out-roll-Core (Core-F.Input i)
-
-pub opens-Add : (es : List Core) → out-Core (core.Add es) ≡ Core-F.Add es
-opens-Add es = ap out-Core (sym (rolls-Add es)) ∙ out-roll-Core (Core-F.Add es)
