@@ -3,7 +3,9 @@
 
 mod core_form;
 mod inputs;
+mod kept;
 mod lowered;
+mod path;
 mod program;
 mod site;
 #[cfg(test)]
@@ -13,6 +15,8 @@ mod words;
 
 pub use core_form::Core;
 pub use inputs::{Entry, Inputs, Sets};
+pub use kept::{Kept, Key};
 pub use lowered::{Low, LowFunction, LowItem, Lowered, Slot};
+pub use path::Path;
 pub use program::{Event, Function, Input, Item, Program};
 pub use text::core_text;

@@ -1,0 +1,11 @@
+pub mod Ands
+pub mod Appends
+pub mod CallForms
+pub mod Forms
+pub mod JudgedForms
+pub mod Parts
+pub mod Listing
+pub mod Marking
+pub mod Removing
+pub mod Splits
+pub mod ClassLemmas

@@ -1,0 +1,9 @@
+use Rattle.std.proofs.Common.{◌∙◌, ap, sym}
+use Rattle.fr_purity.proofs.ClassLemmas.{is_fit_expr}
+use Rattle.fr_purity.proofs.fitness.is_fit.Goals as goal
+
+pub returns : goal.returns
+returns c =
+    let told = ap (λ j. j.fit) (rw c.deref.ensures.value at c.judge.ensures) in
+    let law = is_fit_expr c.args.program.now _ _ c.args.expr.now c.requires in
+    ((λ h. law.0 (sym told ∙ h)), (λ h. told ∙ law.1 h))
