@@ -1,0 +1,29 @@
+pub mod DepthForms
+pub mod CoreForms
+pub mod FaultForms
+pub mod Nested
+mod Chains
+mod Walks
+mod FaultArms
+mod Repeats
+mod SharedArms
+pub mod Among
+pub mod Bound
+pub mod DistinctNames
+pub mod Expanded
+pub mod Fits
+pub mod Fresh
+pub mod Measured
+pub mod Members
+pub mod Numbered
+pub mod OneExpansion
+pub mod Outlined
+pub mod Parsed
+pub mod Passed
+pub mod Refusals
+pub mod Roots
+pub mod ScopedCores
+pub mod Sizes
+pub mod Sound
+pub mod Unfit
+pub mod Values

@@ -1,0 +1,9 @@
+pub mod Faults
+pub mod Translation
+pub mod Depths
+pub mod Passes
+pub mod Shaped
+pub mod Items
+pub mod Expansion
+pub mod Cores
+pub mod Stops

@@ -1,0 +1,103 @@
+ghost use Rattle.std.specs.Prelude.{◌≡◌, ◌≤◌, ◌+◌, ◌++◌, [], ◌∷◌, length, IfOk, OnOk};
+ghost use Rattle.std.specs.Str.{bytes_eq};
+ghost use Rattle.fr_expand.specs.Faults.{is_keyword, any_keyword, any_twice, binding_faults, chain_faults, named};
+
+use crate::faults::Faults;
+use fr_scope::Scope;
+use fr_syntax::keyword_named;
+use fr_value::Name;
+use std::alloc::{AllocError, Global};
+use std::collections::BTreeSet;
+
+/// Whether a name is a keyword.
+pub(crate) fn is_keyword(name: &Name) -> bool
+    ensures { result ≡ is_keyword name.now }
+{
+    keyword_named(name.as_str()).is_some()
+}
+
+/// Whether one of these names is a keyword.
+fn any_keyword(names: &[Name]) -> bool
+    ensures { result ≡ any_keyword names.now }
+{
+    for name in names {
+        if is_keyword(name) {
+            return true;
+        }
+    }
+    false
+}
+
+/// Whether a name stands twice. It takes no time but the sorting of the names.
+fn any_twice(alloc: Global, names: &[Name]) -> Result<bool, AllocError>
+    ensures { IfOk result (λ b. b ≡ any_twice names.now) }
+{
+    let mut seen = BTreeSet::new(alloc);
+    for name in names {
+        if !seen.insert(name.as_str())? {
+            return Ok(true);
+        }
+    }
+    Ok(false)
+}
+
+/// What is wrong with names that are bound together.
+pub(crate) fn binding_faults(alloc: Global, names: &[Name]) -> Result<Faults, AllocError>
+    ensures { IfOk result (λ f. f ≡ binding_faults names.now) }
+{
+    Ok(Faults {
+        name: any_keyword(names),
+        unbound: false,
+        twice: any_twice(alloc, names)?,
+    })
+}
+
+/// What is wrong with names that are bound one after the other.
+pub(crate) fn chain_faults(names: &[Name]) -> Faults
+    ensures { result ≡ chain_faults names.now }
+{
+    Faults {
+        name: any_keyword(names),
+        unbound: false,
+        twice: false,
+    }
+}
+
+/// What is wrong with a name that is bound alone.
+pub(crate) fn binding_faults_of_one(name: &Name) -> Faults
+    ensures { result ≡ binding_faults (name.now ∷ []) }
+{
+    Faults {
+        name: is_keyword(name),
+        unbound: false,
+        twice: false,
+    }
+}
+
+/// What is wrong with two names that are bound together.
+pub(crate) fn binding_faults_of_two(first: &Name, second: &Name) -> Faults
+    ensures { result ≡ binding_faults (first.now ∷ second.now ∷ []) }
+{
+    Faults {
+        name: is_keyword(first) || is_keyword(second),
+        unbound: false,
+        twice: is_same(second, first),
+    }
+}
+
+fn is_same(a: &Name, b: &Name) -> bool
+    ensures { result ≡ bytes_eq a.now b.now }
+{
+    a.same(b)
+}
+
+/// One more variable for each of these names, the last one innermost.
+pub(crate) fn bind_all(scope: &mut Scope, names: &[Name]) -> Result<(), AllocError>
+    requires { length scope.old + length names.now ≤ 4294967295 }
+    ensures { OnOk result (scope.new ≡ scope.old ++ named names.now) }
+{
+    for name in names {
+        scope.push(name)?;
+    }
+    Ok(())
+}

@@ -1,0 +1,12 @@
+//! What names mean at a place of a program: variables, sources, functions and primitives.
+#![tactic(auto)]
+
+mod globals;
+mod meaning;
+mod scope;
+#[cfg(test)]
+mod tests;
+
+pub use globals::Globals;
+pub use meaning::Meaning;
+pub use scope::Scope;

@@ -1,0 +1,10 @@
+pub mod Bounds
+pub mod Firsts
+pub mod Heads
+pub mod LastClauses
+pub mod Levels
+pub mod Opened
+pub mod Params
+pub mod Small
+pub mod SmallForms
+pub mod Weights

@@ -1,0 +1,18 @@
+use crate::expr::Expr;
+use fr_value::{Name, Value};
+use sqlite_items::Items;
+
+/// A form of a program. Its names aren't looked up.
+#[derive(Drop)]
+pub enum Form {
+    /// `(define-input NAME DATUM)`: a behaviour that the script sets, and its first value.
+    Input(Name, Value),
+    /// `(define-event NAME)`: an event stream whose occurrences the script gives.
+    Event(Name),
+    /// `(define (NAME PARAM ...) BODY)`: a function, its parameters and its body.
+    Function(Name, Items<Name>, Expr),
+    /// `(define NAME EXPR)`: a value for the forms behind it.
+    Define(Name, Expr),
+    /// `(show NAME EXPR)`: a displayed value.
+    Show(Name, Expr),
+}
