@@ -1,0 +1,15 @@
+mod Options
+mod Shorter
+mod Numerals
+mod Agree
+mod Saturated
+mod Symbols
+mod Seen
+mod Added
+mod LineEnds
+mod Cuts
+mod Tells
+mod Wholes
+mod Goes
+mod Turns
+mod Examples

@@ -1,0 +1,9 @@
+use Rattle.std.proofs.Common.{None, length}
+use Rattle.fr_script.specs.Steps.{Onward}
+use Rattle.fr_script.proofs.reader.ScriptReader.next.Given as goal
+
+abbrev pub invariant-lines : goal.invariant-lines
+invariant-lines l = Onward l.fn.self None l.self
+
+abbrev pub decreases-lines : goal.decreases-lines
+decreases-lines l = length l.self.rest

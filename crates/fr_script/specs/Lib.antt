@@ -1,0 +1,9 @@
+pub mod Reading
+pub mod Lines
+pub mod Sources
+pub mod Past
+pub mod Kinds
+pub mod Instants
+pub mod Ahead
+pub mod Stands
+pub mod Steps

@@ -1,0 +1,18 @@
+//! Reads event scripts in pieces: the instants that a script's lines give, and its first bad line.
+#![tactic(auto)]
+
+mod lines;
+mod names;
+mod progress;
+mod reader;
+mod rest;
+mod said;
+mod sources;
+#[cfg(test)]
+mod tests;
+mod turn;
+mod waiting;
+
+pub use reader::ScriptReader;
+pub use said::values_are_readings;
+pub use turn::{LineKind, Turn};

@@ -1,0 +1,222 @@
+//! What is known of the lines before a line.
+
+ghost use Rattle.std.specs.Prelude.{◌≡◌, ◌+◌, ◌<◌, ◌≤◌, IfOk, OnErr, None, Some, true, false};
+ghost use Rattle.fr_script.specs.Kinds.{is_long, is_beyond, is_time, is_full, is_wrong, begins, stands, last_time};
+ghost use Rattle.fr_script.specs.Ahead.{none_before, passed, set_in, closed_by, CanJoin, MaySet, joins};
+
+use crate::waiting::Waiting;
+use fr_core::{Entry, Inputs};
+use fr_value::SrcId;
+use std::alloc::{AllocError, Global};
+use std::marker::Model;
+use std::mem;
+
+/// The most bytes of a line, without its newline.
+const MAX_LINE: u64 = 65_536;
+
+/// The most bytes of a script.
+const MAX_SCRIPT: u64 = 1_099_511_627_776;
+
+/// The greatest time.
+const MAX_TIME: u64 = 9_223_372_036_854_775_807;
+
+/// What is known of the lines before a line. Contracts see the numbers of lines, bytes and instants, and the last instant.
+#[derive(Drop)]
+pub struct Progress {
+    lines: u64,
+    bytes: u64,
+    // the limit of instants is the type's own
+    count: u32,
+    last: Option<Waiting>,
+}
+
+impl Model for Progress {
+    ghost use Rattle.std.specs.Prelude.{◌≤◌};
+    ghost use Rattle.fr_script.specs.Past.{Past, past_code};
+
+    ghost Value = { Past };
+
+    ghost coded = { past_code };
+
+    ghost view = { λ p. record { lines = p.lines; bytes = p.bytes; count = p.count; last = p.last } };
+
+    ghost invariant = { λ p. (p.lines ≤ p.bytes) × (p.bytes ≤ 1099511627776) };
+}
+
+fn inputs_of(waiting: Option<Waiting>) -> Option<Inputs>
+    ensures { result ≡ waiting }
+{
+    match waiting {
+        Some(waiting) => Some(waiting.into_inputs()),
+        None => None,
+    }
+}
+
+fn time_of(waiting: &Option<Waiting>) -> u64
+    ensures { result ≡ last_time waiting.now }
+{
+    match waiting {
+        Some(waiting) => waiting.time(),
+        None => 0,
+    }
+}
+
+fn is_before(waiting: &Option<Waiting>, time: u64) -> bool
+    ensures { result ≡ begins waiting.now time }
+{
+    match waiting {
+        Some(waiting) => waiting.time() < time,
+        None => true,
+    }
+}
+
+fn sets(waiting: &Option<Waiting>, time: u64, source: SrcId) -> bool
+    ensures { result ≡ stands waiting.now time source }
+{
+    match waiting {
+        Some(waiting) => waiting.time() == time && waiting.has(source),
+        None => false,
+    }
+}
+
+fn add(waiting: &mut Option<Waiting>, entry: Entry) -> Result<(), AllocError>
+    requires { CanJoin waiting.old entry.source }
+    ensures ok { IfOk result (λ _. waiting.new ≡ Some (joins waiting.old 0 entry)) }
+    ensures err { OnErr result (waiting.new ≡ waiting.old) }
+{
+    match waiting {
+        Some(waiting) => waiting.add(entry),
+        None => unreachable!(),
+    }
+}
+
+fn is_time(time: u64) -> bool
+    ensures { result ≡ is_time time }
+{
+    0 < time && time <= MAX_TIME
+}
+
+impl Progress {
+    /// Before the first line.
+    pub fn new() -> Progress
+        ensures { result ≡ none_before }
+    {
+        Progress {
+            lines: 0,
+            bytes: 0,
+            count: 0,
+            last: None,
+        }
+    }
+
+    /// The number of the next line, which counts from 1.
+    pub fn line(&self) -> u64
+        ensures { result ≡ self.now.lines + 1 }
+    {
+        self.lines + 1
+    }
+
+    /// Whether more bytes of a line than it may have stand among those that a script may have.
+    pub fn is_long(&self, line: &[u8]) -> bool
+        ensures { result ≡ is_long self.now.bytes line.now }
+    {
+        MAX_LINE < (line.len() as u64).min(MAX_SCRIPT - self.bytes)
+    }
+
+    /// Whether so many bytes more are more than a script may have.
+    pub fn is_beyond(&self, more: u64) -> bool
+        ensures { result ≡ is_beyond self.now.bytes more }
+    {
+        MAX_SCRIPT - self.bytes < more
+    }
+
+    /// Whether a line of this time begins a further instant.
+    pub fn begins(&self, time: u64) -> bool
+        ensures { result ≡ begins self.now.last time }
+    {
+        is_before(&self.last, time)
+    }
+
+    /// Whether a line of this time begins an instant too many.
+    pub fn is_full(&self, time: u64) -> bool
+        ensures { result ≡ is_full self.now time }
+    {
+        is_time(time) && self.begins(time) && self.count == u32::MAX
+    }
+
+    /// Whether a time is out of range or below the last one.
+    pub fn is_wrong(&self, time: u64) -> bool
+        ensures { result ≡ is_wrong self.now time }
+    {
+        !(is_time(time) && time_of(&self.last) <= time)
+    }
+
+    /// Whether a source is set at this time already.
+    pub fn stands(&self, time: u64, source: SrcId) -> bool
+        ensures { result ≡ stands self.now.last time source }
+    {
+        sets(&self.last, time, source)
+    }
+
+    /// Goes behind one more line of so many bytes.
+    pub fn pass(&mut self, n: u64)
+        requires some { 0 < n }
+        requires within { self.old.bytes + n ≤ 1099511627776 }
+        ensures { self.new ≡ passed self.old n }
+    {
+        self.bytes += n;
+        self.lines += 1;
+    }
+
+    fn begin(
+        &mut self,
+        alloc: Global,
+        time: u64,
+        entry: Entry,
+    ) -> Result<Option<Inputs>, AllocError>
+        requires begins { begins self.old.last time ≡ true }
+        requires room { self.old.count < 4294967295 }
+        ensures ok { IfOk result (λ closed. (closed ≡ closed_by self.old.last time) × (self.new ≡ set_in self.old time entry)) }
+        ensures err { OnErr result (self.new ≡ self.old) }
+    {
+        let waiting = Waiting::begin(alloc, time, entry)?;
+        self.count += 1;
+        Ok(inputs_of(mem::replace(&mut self.last, Some(waiting))))
+    }
+
+    fn join(&mut self, time: u64, entry: Entry) -> Result<(), AllocError>
+        requires begins { begins self.old.last time ≡ false }
+        requires free { CanJoin self.old.last entry.source }
+        ensures ok { IfOk result (λ _. (None ≡ closed_by self.old.last time) × (self.new ≡ set_in self.old time entry)) }
+        ensures err { OnErr result (self.new ≡ self.old) }
+    {
+        add(&mut self.last, entry)
+    }
+
+    /// Sets a value at a time, and gives the instant that the line makes whole. After want of memory nothing was set.
+    pub fn set(
+        &mut self,
+        alloc: Global,
+        time: u64,
+        entry: Entry,
+    ) -> Result<Option<Inputs>, AllocError>
+        requires { MaySet self.old time entry.source }
+        ensures ok { IfOk result (λ closed. (closed ≡ closed_by self.old.last time) × (self.new ≡ set_in self.old time entry)) }
+        ensures err { OnErr result (self.new ≡ self.old) }
+    {
+        if self.begins(time) {
+            self.begin(alloc, time, entry)
+        } else {
+            self.join(time, entry)?;
+            Ok(None)
+        }
+    }
+
+    /// Takes the last instant.
+    pub fn take(&mut self) -> Option<Inputs>
+        ensures value { result ≡ self.old.last }
+        ensures rest { self.new ≡ record self.old { last = None } }
+    {
+        inputs_of(self.last.take())
+    }
+}
