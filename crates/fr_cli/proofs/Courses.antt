@@ -6,13 +6,14 @@ use Rattle.std.specs.Io.KnownBytes.{Appends}
 use Rattle.std.proofs.lemmas.List.{append-nil}
 use Rattle.fr_io.specs.Files.{AppendsSome}
 use Rattle.fr_io.proofs.Appending.{appends_more}
-use Rattle.fr_meaning.specs.declared.stop.Stop.{Stop}
-use Rattle.fr_meaning.specs.declared.stop.Stop.TheVariants.{Usage, Script, Evaluation, Program, Read, Write, Memory}
-use Rattle.fr_meaning.specs.declared.program.Program.{Program as Source}
-use Rattle.fr_meaning.specs.declared.inputs.Inputs.{Inputs}
-use Rattle.fr_meaning.specs.declared.kept.Kept.{Kept}
-use Rattle.fr_meaning.specs.Afresh.{State, After, instant}
-use Rattle.fr_meaning.specs.Course.{Course, joined, after, stopped, onward, course_from}
+use Rattle.fr_show.specs.declared.stop.Stop.{Stop}
+use Rattle.fr_show.specs.declared.stop.Stop.TheVariants.{Usage, Script, Evaluation, Program, Read, Write, Memory}
+use Rattle.fr_sums.specs.declared.program.Program.{Program as Source}
+use Rattle.fr_sums.specs.declared.inputs.Inputs.{Inputs}
+use Rattle.fr_sums.specs.declared.kept.Kept.{Kept}
+use Rattle.fr_sums.specs.Afresh.{State, After, instant}
+use Rattle.fr_show.specs.Course.{Course, joined, after, stopped}
+use Rattle.fr_first.specs.Course.{onward, course_from}
 use Rattle.fr_engine.specs.Running.{Running, state_of, Goes}
 use Rattle.fr_cli.specs.Ends.{StopSays, EndsThere, AppendsWhole}
 use Rattle.fr_cli.proofs.Writing.{some_front, some_behind}

@@ -5,18 +5,19 @@ use Rattle.std.proofs.lemmas.List.{take_all, length-take}
 use Rattle.std.specs.Option.{option_and_then}
 use Rattle.std.specs.Io.KnownBytes.{Appends}
 use Rattle.fr_io.specs.Files.{ReachesFront}
-use Rattle.fr_meaning.specs.declared.stop.Stop.{Stop}
-use Rattle.fr_meaning.specs.declared.stop.Stop.TheVariants.{Usage, Script, Evaluation, Program, Read, Write, Memory}
-use Rattle.fr_meaning.specs.declared.stop.LineKind.TheVariants as line_kind
-use Rattle.fr_meaning.specs.declared.program.Program.{Program as Source}
-use Rattle.fr_meaning.specs.declared.inputs.Inputs.{Inputs}
-use Rattle.fr_meaning.specs.declared.inputs.Set.{Set}
-use Rattle.fr_meaning.specs.declared.kept.Kept.{Kept}
-use Rattle.fr_meaning.specs.declared.kept.Kept.TheVariants as kept
-use Rattle.fr_meaning.specs.Afresh.{State, instant, beginning, first_instant}
-use Rattle.fr_meaning.specs.Names.{input_names}
-use Rattle.fr_meaning.specs.Script.{script_of, instants_of, each_line, lines}
-use Rattle.fr_meaning.specs.Course.{Course, joined, after, stopped, onward, over_script, run_course}
+use Rattle.fr_show.specs.declared.stop.Stop.{Stop}
+use Rattle.fr_show.specs.declared.stop.Stop.TheVariants.{Usage, Script, Evaluation, Program, Read, Write, Memory}
+use Rattle.fr_show.specs.declared.stop.LineKind.TheVariants as line_kind
+use Rattle.fr_sums.specs.declared.program.Program.{Program as Source}
+use Rattle.fr_sums.specs.declared.inputs.Inputs.{Inputs}
+use Rattle.fr_sums.specs.declared.inputs.Set.{Set}
+use Rattle.fr_sums.specs.declared.kept.Kept.{Kept}
+use Rattle.fr_sums.specs.declared.kept.Kept.TheVariants as kept
+use Rattle.fr_sums.specs.Afresh.{State, instant, beginning, first_instant}
+use Rattle.fr_sums.specs.Names.{input_names}
+use Rattle.fr_sums.specs.Script.{script_of, instants_of, each_line, lines}
+use Rattle.fr_show.specs.Course.{Course, joined, after, stopped}
+use Rattle.fr_first.specs.Course.{onward, over_script, run_course}
 use Rattle.fr_engine.specs.Running.{Running, running, state_of, Goes}
 use Rattle.fr_cli.specs.Ends.{StopSays, EndsThere}
 use Rattle.fr_cli.proofs.Courses.{gives, ends_after, whole_after, some_after, appends_one, appends_nothing}

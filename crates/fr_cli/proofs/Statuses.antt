@@ -2,40 +2,46 @@
 use Rattle.std.proofs.Common.{◌≡◌, ◌∙◌, ℕ, ◌≤◌, List, length, take, drop, ap, sym, refl, subst, arith, None, Some, IfSome, Option}
 use Rattle.std.proofs.lemmas.List.{take_all, length-take, take-append-le, take-append-drop}
 use Rattle.std.specs.Io.KnownBytes.{Appends}
-use Rattle.fr_meaning.specs.declared.stop.Stop.{Stop}
-use Rattle.fr_meaning.specs.declared.stop.Stop.TheVariants.{Usage, Script, Evaluation, Program, Read, Write, Memory}
-use Rattle.fr_meaning.specs.Accepted.{course_of, OnCourse, OnEachCourse}
-use Rattle.fr_meaning.specs.Course.{Course, joined}
-use Rattle.fr_cli.specs.Command.{Command, run, OnCommand, OnEachCommand}
+use Rattle.fr_show.specs.declared.stop.Stop.{Stop}
+use Rattle.fr_show.specs.declared.stop.Stop.TheVariants.{Usage, Script, Evaluation, Program, Read, Write, Memory}
+use Rattle.fr_show.specs.Accepted.{IsVerdict, OnJudged, OnEachJudged}
+use Rattle.fr_first.specs.Sums.{IsVerdict as IsRunVerdict, course_of}
+use Rattle.fr_show.specs.Course.{Course, joined}
+use Rattle.fr_cli.specs.Command.{Command, run, check, checked, OnCommand, OnEachCommand}
 use Rattle.fr_cli.specs.Ends.{StopSays, SaysOn, EndsThere, AppendsWhole, RefusesProgram, RefusesScript, Errs}
 use Rattle.fr_cli.specs.Lines.{status_of}
-use Rattle.fr_cli.proofs.Runs.{each_of}
+use Rattle.fr_cli.proofs.Runs.{each_of, run_judging, check_judging}
 
 some_map : (o : Option Course) (F G : Course → Type 0) → ((c : Course) → F c → G c) → IfSome o F → IfSome o G
 some_map None F G h k = tt
 some_map (Some c) F G h k = h c k
 
-course_map : (program script : Option (List ℕ)) (F G : Course → Type 0) → ((c : Course) → F c → G c) → OnCourse program script F → OnCourse program script G
-course_map None script F G h k = tt
-course_map (Some bytes) script F G h k = (k.0, k.1, some_map (course_of k.0 script) F G h k.2)
+judged_map : {V : Type 0} (judged : List ℕ → V → Type 0) (course : V → Option Course) (held : Option (List ℕ)) (F G : Course → Type 0) → ((c : Course) → F c → G c)
+    → OnJudged judged course held F → OnJudged judged course held G
+judged_map judged course None F G h k = tt
+judged_map judged course (Some bytes) F G h k = (k.0, k.1, some_map (course k.0) F G h k.2)
 
 -- what follows of a course follows of the course of the words
-on_map : (w : Option Command) (holds : List ℕ → Option (List ℕ)) (F G : Course → Type 0) → ((c : Course) → F c → G c) → OnCommand w holds F → OnCommand w holds G
+pub on_map : (w : Option Command) (holds : List ℕ → Option (List ℕ)) (F G : Course → Type 0) → ((c : Course) → F c → G c) → OnCommand w holds F → OnCommand w holds G
 on_map None holds F G h k = h _ k
-on_map (Some (run p s)) holds F G h k = course_map (holds p) (holds s) F G h k
+on_map (Some (run p s)) holds F G h k = judged_map IsRunVerdict (course_of (holds s)) (holds p) F G h k
+on_map (Some (check p)) holds F G h k = judged_map IsVerdict checked (holds p) F G h k
 
-each_map : (program script : Option (List ℕ)) (F G : Course → Type 0) → ((c : Course) → F c → G c) → OnEachCourse program script F → OnEachCourse program script G
-each_map None script F G h k = tt
-each_map (Some bytes) script F G h k = λ v is. some_map (course_of v script) F G h (k v is)
+each_map : {V : Type 0} (judged : List ℕ → V → Type 0) (course : V → Option Course) (held : Option (List ℕ)) (F G : Course → Type 0) → ((c : Course) → F c → G c)
+    → OnEachJudged judged course held F → OnEachJudged judged course held G
+each_map judged course None F G h k = tt
+each_map judged course (Some bytes) F G h k = λ v is. some_map (course v) F G h (k v is)
 
 -- what follows of each course follows of each course of the words
 on_each_map : (w : Option Command) (holds : List ℕ → Option (List ℕ)) (F G : Course → Type 0) → ((c : Course) → F c → G c) → OnEachCommand w holds F → OnEachCommand w holds G
 on_each_map None holds F G h k = h _ k
-on_each_map (Some (run p s)) holds F G h k = each_map (holds p) (holds s) F G h k
+on_each_map (Some (run p s)) holds F G h k = each_map IsRunVerdict (course_of (holds s)) (holds p) F G h k
+on_each_map (Some (check p)) holds F G h k = each_map IsVerdict checked (holds p) F G h k
 
 on_to_each : (w : Option Command) (holds : List ℕ → Option (List ℕ)) (F : Course → Type 0) → OnCommand w holds F → OnEachCommand w holds F
 on_to_each None holds F k = k
-on_to_each (Some (run p s)) holds F k = each_of (holds p) (holds s) F k
+on_to_each (Some (run p s)) holds F k = each_of IsRunVerdict run_judging (course_of (holds s)) (holds p) F k
+on_to_each (Some (check p)) holds F k = each_of IsVerdict check_judging checked (holds p) F k
 
 -- what a stop of a command says
 abbrev pub Says : Stop → Option Command → (List ℕ → Option (List ℕ)) → Option (List ℕ) → Option (List ℕ) → Type 0

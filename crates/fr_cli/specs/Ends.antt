@@ -2,11 +2,11 @@
 use Rattle.std.specs.Prelude.{◌≡◌, ◌≤◌, ℕ, List, length, take, Option, Some}
 use Rattle.std.specs.Io.KnownBytes.{Appends}
 use Rattle.fr_io.specs.Files.{AppendsSome}
-use Rattle.fr_meaning.specs.declared.stop.Stop.{Stop}
-use Rattle.fr_meaning.specs.declared.stop.Stop.TheVariants.{Usage, Program, Script, Evaluation, Read, Write, Memory}
-use Rattle.fr_meaning.specs.declared.stop.ProgramKind.{ProgramKind}
-use Rattle.fr_meaning.specs.declared.stop.LineKind.{LineKind}
-use Rattle.fr_meaning.specs.Course.{Course, joined}
+use Rattle.fr_show.specs.declared.stop.Stop.{Stop}
+use Rattle.fr_show.specs.declared.stop.Stop.TheVariants.{Usage, Program, Script, Evaluation, Read, Write, Memory}
+use Rattle.fr_show.specs.declared.stop.ProgramKind.{ProgramKind}
+use Rattle.fr_show.specs.declared.stop.LineKind.{LineKind}
+use Rattle.fr_show.specs.Course.{Course, joined}
 
 -- a whole number of these texts was appended, from the first on
 abbrev pub AppendsWhole : Option (List ℕ) → Option (List ℕ) → List (List ℕ) → Type 0

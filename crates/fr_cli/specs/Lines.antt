@@ -3,12 +3,12 @@ use Rattle.std.specs.Prelude.{◌≡◌, ℕ, List, ◌++◌, Option, Some, None
 use Rattle.std.specs.Io.KnownBytes.{Appends}
 use Rattle.fr_io.specs.Faults.{Rose}
 use Rattle.fr_io.specs.Files.{AppendsSome}
-use Rattle.fr_meaning.specs.declared.stop.Stop.{Stop}
-use Rattle.fr_meaning.specs.declared.stop.Stop.TheVariants.{Usage, Program, Script, Evaluation, Read, Write, Memory}
-use Rattle.fr_meaning.specs.declared.stop.ProgramKind.{ProgramKind}
-use Rattle.fr_meaning.specs.declared.stop.ProgramKind.TheVariants as program_kind
-use Rattle.fr_meaning.specs.declared.stop.LineKind.{LineKind}
-use Rattle.fr_meaning.specs.declared.stop.LineKind.TheVariants as line_kind
+use Rattle.fr_show.specs.declared.stop.Stop.{Stop}
+use Rattle.fr_show.specs.declared.stop.Stop.TheVariants.{Usage, Program, Script, Evaluation, Read, Write, Memory}
+use Rattle.fr_show.specs.declared.stop.ProgramKind.{ProgramKind}
+use Rattle.fr_show.specs.declared.stop.ProgramKind.TheVariants as program_kind
+use Rattle.fr_show.specs.declared.stop.LineKind.{LineKind}
+use Rattle.fr_show.specs.declared.stop.LineKind.TheVariants as line_kind
 use Rattle.fr_cli.specs.Command.{OnWords, OnEachWords}
 use Rattle.fr_cli.specs.Ends.{SaysOn}
 
@@ -29,6 +29,12 @@ status_of_end (Some stop) = status_of stop
 abbrev pub program_word : ProgramKind → List ℕ
 program_word program_kind.Length = codes "length"
 program_word program_kind.Text = codes "text"
+program_word program_kind.Form = codes "form"
+program_word program_kind.Name = codes "name"
+program_word program_kind.Unbound = codes "unbound"
+program_word program_kind.Twice = codes "twice"
+program_word program_kind.Handler = codes "handler"
+program_word program_kind.Nesting = codes "nesting"
 program_word program_kind.Unbuilt = codes "unbuilt"
 
 abbrev pub line_word : LineKind → List ℕ

@@ -1,14 +1,16 @@
 -- Values of the code, as contracts see them.
-use Rattle.fr_cli.specs.declared.command.Files.{Files}
-use Rattle.fr_meaning.specs.declared.stop.Stop.{Stop}
-use Rattle.fr_meaning.specs.declared.stop.Stop.TheVariants as stop
-use Rattle.fr_first.specs.declared.acceptance.AcceptStop.{AcceptStop}
-use Rattle.fr_first.specs.declared.acceptance.AcceptStop.TheVariants.{Memory, Refused}
-use Rattle.fr_cli.specs.Command.{Command, run}
+use Rattle.fr_show.specs.declared.stop.Stop.{Stop}
+use Rattle.fr_show.specs.declared.stop.Stop.TheVariants as stop
+use Rattle.fr_show.specs.declared.acceptance.AcceptStop.{AcceptStop}
+use Rattle.fr_show.specs.declared.acceptance.AcceptStop.TheVariants.{Memory, Refused}
+use Rattle.fr_cli.specs.declared.command.Request.{Request}
+use Rattle.fr_cli.specs.declared.command.Request.TheVariants as request
+use Rattle.fr_cli.specs.Command.{Command, run, check}
 
--- the command that names these files
-abbrev pub told : Files → Command
-told files = run files.program.now files.script.now
+-- the command that a request is
+abbrev pub told : Request → Command
+told (request.Run program script) = run program.now script.now
+told (request.Check program) = check program.now
 
 -- the stop of a program that isn't accepted
 abbrev pub unaccepted : AcceptStop → Stop

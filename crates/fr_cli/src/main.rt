@@ -1,4 +1,4 @@
-//! `frtime`: runs a program over a script of timed events, and prints the displayed values of each instant.
+//! `frtime`: checks a program, or runs it over a script of timed events and prints the displayed values of each instant.
 #![tactic(auto)]
 
 mod command;
@@ -7,7 +7,7 @@ mod telling;
 mod top;
 
 use fr_io::{DirShelf, StdSink};
-use fr_meaning::Stop;
+use fr_show::Stop;
 use std::alloc::AllocError;
 use std::process::ExitCode;
 use std::{env, io};

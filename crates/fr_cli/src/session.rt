@@ -2,22 +2,24 @@ ghost use Rattle.std.specs.Prelude.{◌≡◌, ◌≤◌, ℕ, List, length, Non
 ghost use Rattle.std.specs.Io.KnownBytes.{Appends};
 ghost use Rattle.fr_io.specs.Faults.{Rose, NoneFalls};
 ghost use Rattle.fr_io.specs.Files.{ReachesFront};
-ghost use Rattle.fr_meaning.specs.declared.kept.Kept.{Kept};
-ghost use Rattle.fr_meaning.specs.Afresh.{State, instant as instant_after};
-ghost use Rattle.fr_meaning.specs.Course.{Course, joined, after, stopped, onward, course_from, over_script, run_course};
-ghost use Rattle.fr_meaning.specs.Script.{script_of};
+ghost use Rattle.fr_sums.specs.declared.kept.Kept.{Kept};
+ghost use Rattle.fr_sums.specs.Afresh.{State, instant as instant_after};
+ghost use Rattle.fr_show.specs.Course.{Course, joined, after, stopped};
+ghost use Rattle.fr_first.specs.Course.{onward, course_from, over_script, run_course};
+ghost use Rattle.fr_sums.specs.Script.{script_of};
 ghost use Rattle.fr_engine.specs.Running.{state_of, Goes};
 ghost use Rattle.fr_cli.specs.Ends.{EndsThere, StopSays};
 
 use fr_engine::{Engine, EngineStop};
 use fr_first::read_script;
 use fr_io::{ReadStop, Shelf, Sink, read_up_to, write_all};
-use fr_meaning::{Inputs, LineKind, Program, Stop};
+use fr_show::{LineKind, Stop};
+use fr_sums::{Inputs, Program};
 use sqlite_items::Items;
 use std::alloc::Global;
 
-/// The most bytes of a program, and today of a script.
-pub const LIMIT: usize = 1_048_576;
+/// The most bytes of a script today.
+const SCRIPT_LIMIT: usize = 1_048_576;
 
 /// Runs one instant, and writes its text once the whole instant is done.
 fn run_instant<O: Sink>(
@@ -90,7 +92,7 @@ fn run_script<S: Shelf, O: Sink>(
     ensures write_fault { IsErrOf result Stop.Write → Rose (O.faults out.old) (O.faults out.new) }
     ensures no_usage { IsErrOf result Stop.Usage → ⊥ }
 {
-    let bytes = match read_up_to(alloc, shelf, script, LIMIT) {
+    let bytes = match read_up_to(alloc, shelf, script, SCRIPT_LIMIT) {
         Ok(bytes) => bytes,
         Err(ReadStop::Memory(e)) => return Err(Stop::Memory(e)),
         Err(ReadStop::Failed) => return Err(Stop::Read),

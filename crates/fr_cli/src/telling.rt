@@ -5,7 +5,7 @@ ghost use Rattle.fr_io.specs.Files.{AppendsSome};
 ghost use Rattle.fr_cli.specs.Lines.{status_of, line_of, refusal_end, program_word, line_word, Tells};
 
 use fr_io::{Failed, Sink, write_all};
-use fr_meaning::{LineKind, ProgramKind, Stop};
+use fr_show::{LineKind, ProgramKind, Stop};
 use itoa::Buffer;
 
 /// The exit status of a stop.
@@ -93,6 +93,12 @@ fn program_end(kind: ProgramKind) -> &'static [u8]
     match kind {
         ProgramKind::Length => b": length\n",
         ProgramKind::Text => b": text\n",
+        ProgramKind::Form => b": form\n",
+        ProgramKind::Name => b": name\n",
+        ProgramKind::Unbound => b": unbound\n",
+        ProgramKind::Twice => b": twice\n",
+        ProgramKind::Handler => b": handler\n",
+        ProgramKind::Nesting => b": nesting\n",
         ProgramKind::Unbuilt => b": unbuilt\n",
     }
 }

@@ -1,19 +1,21 @@
-ghost use Rattle.std.specs.Prelude.{◌≡◌, ◌≢◌, ◌≤◌, ◌↔◌, ◌⊎◌, length, None, map, string_bytes, IfErr, IfSome, OnOk, IsErrOf};
+ghost use Rattle.std.specs.Prelude.{◌≡◌, ◌≢◌, ◌≤◌, ◌↔◌, ◌⊎◌, ◌∷◌, [], length, None, Some, map, string_bytes, IfErr, IfSome, OnOk, IsErrOf};
 ghost use Rattle.fr_io.specs.Faults.{Rose, NoneFalls};
 ghost use Rattle.fr_io.specs.Files.{AppendsSome, ReachesFront};
-ghost use Rattle.fr_meaning.specs.Accepted.{OnCourse, OnEachCourse};
-ghost use Rattle.fr_meaning.specs.Course.{joined};
-ghost use Rattle.fr_cli.specs.Command.{command_of, OnWords, OnEachWords, files_of, AnyRose, ReadsToEnd};
-ghost use Rattle.fr_cli.specs.Told.{unaccepted};
+ghost use Rattle.std.specs.Io.KnownBytes.{Appends};
+ghost use Rattle.fr_show.specs.Accepted.{IsVerdict, OnJudged, OnEachJudged};
+ghost use Rattle.fr_first.specs.Sums.{IsVerdict as IsRunVerdict, course_of};
+ghost use Rattle.fr_show.specs.Course.{joined};
+ghost use Rattle.fr_cli.specs.Command.{command_of, checked, OnCommand, OnEachCommand, OnWords, OnEachWords, files_in, files_of, AnyRose, ReadsToEnd, IsAmong, Answers, IsQuiet};
+ghost use Rattle.fr_cli.specs.Told.{told, unaccepted};
 ghost use Rattle.fr_cli.specs.Ends.{EndsThere, SaysOn, AppendsWhole, RefusesProgram, RefusesScript, Errs};
-ghost use Rattle.fr_cli.specs.Lines.{status_of_end, Stopped};
+ghost use Rattle.fr_cli.specs.Lines.{status_of, status_of_end, Stopped};
 
-use crate::command::command;
-use crate::session::{LIMIT, session};
+use crate::command::{Request, request_of};
+use crate::session::session;
 use crate::telling::{status, tell};
-use fr_first::{AcceptStop, accept};
-use fr_io::{ReadStop, Shelf, Sink, read_up_to};
-use fr_meaning::Stop;
+use fr_first::accept_sums;
+use fr_io::{ReadStop, Shelf, Sink, read_up_to, write_all};
+use fr_show::{AcceptStop, PROGRAM_LIMIT, Stop, accept};
 use std::alloc::Global;
 
 /// The stop of a program that isn't accepted.
@@ -34,8 +36,8 @@ fn run<S: Shelf, O: Sink>(
     shelf: &mut S,
     out: &mut O,
 ) -> Result<(), Stop>
-    ensures ok { OnOk result (OnCourse (S.holds shelf.old program.now) (S.holds shelf.old script.now) (λ c. EndsThere None c (O.written out.old) (O.written out.new))) }
-    ensures err { IfErr result (λ stop. SaysOn stop (OnCourse (S.holds shelf.old program.now) (S.holds shelf.old script.now)) (OnEachCourse (S.holds shelf.old program.now) (S.holds shelf.old script.now)) (O.written out.old) (O.written out.new)) }
+    ensures ok { OnOk result (OnJudged IsRunVerdict (course_of (S.holds shelf.old script.now)) (S.holds shelf.old program.now) (λ c. EndsThere None c (O.written out.old) (O.written out.new))) }
+    ensures err { IfErr result (λ stop. SaysOn stop (OnJudged IsRunVerdict (course_of (S.holds shelf.old script.now)) (S.holds shelf.old program.now)) (OnEachJudged IsRunVerdict (course_of (S.holds shelf.old script.now)) (S.holds shelf.old program.now)) (O.written out.old) (O.written out.new)) }
     ensures to_end { OnOk result (script.now ≢ program.now → IfSome (S.holds shelf.old script.now) (λ file. ReachesFront (S.reached shelf.old script.now) (S.reached shelf.new script.now) (length file))) }
     ensures shelf_counts { NoneFalls (S.faults shelf.old) (S.faults shelf.new) }
     ensures out_counts { O.faults out.old ≤ O.faults out.new }
@@ -43,18 +45,76 @@ fn run<S: Shelf, O: Sink>(
     ensures write_fault { IsErrOf result Stop.Write → Rose (O.faults out.old) (O.faults out.new) }
     ensures no_usage { IsErrOf result Stop.Usage → ⊥ }
 {
-    let bytes = match read_up_to(alloc, shelf, program, LIMIT) {
+    let bytes = match read_up_to(alloc, shelf, program, PROGRAM_LIMIT) {
         Ok(bytes) => bytes,
         Err(ReadStop::Memory(e)) => return Err(Stop::Memory(e)),
         Err(ReadStop::Failed) => return Err(Stop::Read),
     };
-    let program = match accept(alloc, &bytes) {
+    let program = match accept_sums(alloc, &bytes) {
         Ok(program) => program,
         Err(stop) => return Err(stop_of(stop)),
     };
     match session(alloc, program, script, shelf, out) {
         Ok(()) => Ok(()),
         Err(stop) => Err(stop),
+    }
+}
+
+/// Reads and judges the program, and writes that it is accepted.
+fn check<S: Shelf, O: Sink>(
+    alloc: Global,
+    program: &str,
+    shelf: &mut S,
+    out: &mut O,
+) -> Result<(), Stop>
+    ensures ok { OnOk result (OnJudged IsVerdict checked (S.holds shelf.old program.now) (λ c. EndsThere None c (O.written out.old) (O.written out.new))) }
+    ensures err { IfErr result (λ stop. SaysOn stop (OnJudged IsVerdict checked (S.holds shelf.old program.now)) (OnEachJudged IsVerdict checked (S.holds shelf.old program.now)) (O.written out.old) (O.written out.new)) }
+    ensures quiet { IfErr result (λ stop. stop ≢ Stop.Write → Appends (O.written out.old) (O.written out.new) []) }
+    ensures to_end { OnOk result (IfSome (S.holds shelf.old program.now) (λ file. ReachesFront (S.reached shelf.old program.now) (S.reached shelf.new program.now) (length file))) }
+    ensures read_fault { IsErrOf result Stop.Read → Rose (S.faults shelf.old program.now) (S.faults shelf.new program.now) }
+    ensures write_fault { IsErrOf result Stop.Write → Rose (O.faults out.old) (O.faults out.new) }
+    ensures stops { IfErr result (λ stop. IsAmong (status_of stop) (2 ∷ 6 ∷ 7 ∷ 8 ∷ [])) }
+{
+    let text = match read_up_to(alloc, shelf, program, PROGRAM_LIMIT) {
+        Ok(text) => text,
+        Err(ReadStop::Memory(e)) => return Err(Stop::Memory(e)),
+        Err(ReadStop::Failed) => return Err(Stop::Read),
+    };
+    match accept(alloc, &text) {
+        Ok(_program) => {}
+        Err(stop) => return Err(stop_of(stop)),
+    }
+    match write_all(out, b"accepted\n") {
+        Ok(()) => Ok(()),
+        Err(_) => Err(Stop::Write),
+    }
+}
+
+/// Does what is asked for.
+fn fulfil<S: Shelf, O: Sink>(
+    alloc: Global,
+    request: Request<'_>,
+    shelf: &mut S,
+    out: &mut O,
+) -> Result<(), Stop>
+    ensures ok { OnOk result (OnCommand (Some (told request.entry)) (S.holds shelf.old) (λ c. EndsThere None c (O.written out.old) (O.written out.new))) }
+    ensures err { IfErr result (λ stop. SaysOn stop (OnCommand (Some (told request.entry)) (S.holds shelf.old)) (OnEachCommand (Some (told request.entry)) (S.holds shelf.old)) (O.written out.old) (O.written out.new)) }
+    ensures to_end { OnOk result (ReadsToEnd (Some (told request.entry)) (S.holds shelf.old) (S.reached shelf.old) (S.reached shelf.new)) }
+    ensures no_usage { IsErrOf result Stop.Usage → ⊥ }
+    ensures read_fault { IsErrOf result Stop.Read → AnyRose (files_in (Some (told request.entry))) (S.faults shelf.old) (S.faults shelf.new) }
+    ensures write_fault { IsErrOf result Stop.Write → Rose (O.faults out.old) (O.faults out.new) }
+    ensures stops { IfErr result (λ stop. Answers (Some (told request.entry)) (status_of stop)) }
+    ensures quiet { IfErr result (λ stop. IsQuiet (Some (told request.entry)) → stop ≢ Stop.Write → Appends (O.written out.old) (O.written out.new) []) }
+{
+    match request {
+        Request::Run { program, script } => match run(alloc, program, script, shelf, out) {
+            Ok(()) => Ok(()),
+            Err(stop) => Err(stop),
+        },
+        Request::Check { program } => match check(alloc, program, shelf, out) {
+            Ok(()) => Ok(()),
+            Err(stop) => Err(stop),
+        },
     }
 }
 
@@ -71,19 +131,22 @@ fn obey<S: Shelf, O: Sink>(
     ensures usage { IsErrOf result Stop.Usage ↔ (command_of (map string_bytes words.now) ≡ None) }
     ensures read_fault { IsErrOf result Stop.Read → AnyRose (files_of (map string_bytes words.now)) (S.faults shelf.old) (S.faults shelf.new) }
     ensures write_fault { IsErrOf result Stop.Write → Rose (O.faults out.old) (O.faults out.new) }
+    ensures stops { IfErr result (λ stop. Answers (command_of (map string_bytes words.now)) (status_of stop)) }
+    ensures quiet { IfErr result (λ stop. IsQuiet (command_of (map string_bytes words.now)) → stop ≢ Stop.Write → Appends (O.written out.old) (O.written out.new) []) }
 {
-    match command(words) {
+    match request_of(words) {
         None => Err(Stop::Usage),
-        Some(files) => match run(alloc, files.program, files.script, shelf, out) {
+        Some(request) => match fulfil(alloc, request, shelf, out) {
             Ok(()) => Ok(()),
             Err(stop) => Err(stop),
         },
     }
 }
 
-/// The top call. `words` are the words after the program's name: `run PROGRAM SCRIPT` runs the program in the first file
+/// The top call. `words` are the words after the program's name. `run PROGRAM SCRIPT` runs the program in the first file
 /// over the script in the second, and appends to `out`, at instant 0 and at each instant of the script, the displayed
-/// values that have changed. The answer is the exit status; for each but 0, one line on `err` tells why:
+/// values that have changed. `check PROGRAM` appends `accepted` and a newline where the program in the file is accepted.
+/// The answer is the exit status; for each but 0, one line on `err` tells why:
 ///
 /// | Status | Line | Comes |
 /// |---|---|---|
@@ -121,10 +184,13 @@ pub fn frtime<S: Shelf, O: Sink, E: Sink>(
     ensures evaluation_error { result ≡ 4 → OnWords (map string_bytes words.now) (S.holds shelf.old) (λ c. Errs c (O.written out.old) (O.written out.new)) }
     ensures read_fault { result ≡ 6 → AnyRose (files_of (map string_bytes words.now)) (S.faults shelf.old) (S.faults shelf.new) }
     ensures write_fault { result ≡ 7 → Rose (O.faults out.old) (O.faults out.new) }
+    ensures answers { Answers (command_of (map string_bytes words.now)) result }
 
     // What was written: the texts of a whole number of instants, and after a write fault some first bytes.
     ensures whole_instants { result ≢ 7 → OnEachWords (map string_bytes words.now) (S.holds shelf.old) (λ c. AppendsWhole (O.written out.old) (O.written out.new) c.texts) }
     ensures first_bytes { result ≡ 7 → OnWords (map string_bytes words.now) (S.holds shelf.old) (λ c. AppendsSome (O.written out.old) (O.written out.new) (joined c.texts)) }
+    // Where `check` stops it has written nothing, but for a write fault.
+    ensures quiet { IsQuiet (command_of (map string_bytes words.now)) → result ≢ 0 → result ≢ 7 → Appends (O.written out.old) (O.written out.new) [] }
 
     // Each status but 0 is that of a stop, which says of the course how it ends or what of it was written, and `err` got
     // its line, or where it fails some first bytes of it.
@@ -139,5 +205,7 @@ pub fn frtime<S: Shelf, O: Sink, E: Sink>(
     }
 }
 
+#[cfg(test)]
+mod check_tests;
 #[cfg(test)]
 mod tests;

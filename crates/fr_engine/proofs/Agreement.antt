@@ -1,15 +1,15 @@
 -- An expression's evaluation gives its number, or errs where it has none, whatever was kept.
 use Rattle.std.proofs.Common.{◌≡◌, ℕ, zero, suc, ◌+◌, ℤ, pos, Bool, true, false, ◌||◌, List, [], ◌∷◌, map, Option, Some, None, is_some, is_none, slice_get, refl, ap, ◌∙◌}
 use Rattle.std.specs.Option.{option_or}
-use Rattle.fr_meaning.specs.declared.program.Core.{Core, out-Core}
-use Rattle.fr_meaning.specs.declared.program.Core.TheOpen.{Core-F}
-use Rattle.fr_meaning.specs.declared.program.Show.{Show}
-use Rattle.fr_meaning.specs.declared.program.Program.{Program}
-use Rattle.fr_meaning.specs.declared.kept.Kept.{Kept}
-use Rattle.fr_meaning.specs.Words.{First, Done, child, under, own}
-use Rattle.fr_meaning.specs.Eval.{World, Ev, Parts, parts, leaf, input_seen, layer, eval_to}
-use Rattle.fr_meaning.specs.Prims.{add, integer_of}
-use Rattle.fr_meaning.specs.Afresh.{evaluate}
+use Rattle.fr_sums.specs.declared.program.Core.{Core, out-Core}
+use Rattle.fr_sums.specs.declared.program.Core.TheOpen.{Core-F}
+use Rattle.fr_sums.specs.declared.program.Show.{Show}
+use Rattle.fr_sums.specs.declared.program.Program.{Program}
+use Rattle.fr_sums.specs.declared.kept.Kept.{Kept}
+use Rattle.fr_sums.specs.Words.{First, Done, child, under, own}
+use Rattle.fr_sums.specs.Eval.{World, Ev, Parts, parts, leaf, input_seen, layer, eval_to}
+use Rattle.fr_sums.specs.Prims.{add, integer_of}
+use Rattle.fr_sums.specs.Afresh.{evaluate}
 use Rattle.fr_engine.specs.Numbers.{sum_numbers, number_layer, number_to}
 use Rattle.fr_engine.specs.Shows.{any_none, show_numbers}
 use Rattle.fr_engine.proofs.Sums.{add_agrees, sum_lacks}

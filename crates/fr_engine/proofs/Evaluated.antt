@@ -1,7 +1,7 @@
 -- One level of an expression's number.
 use Rattle.std.proofs.Common.{◌≡◌, ◌≢◌, ℕ, zero, suc, ◌-◌, List, ℤ, None, refl, ap, sub-one}
-use Rattle.fr_meaning.specs.declared.program.Core.{Core, out-Core}
-use Rattle.fr_meaning.specs.declared.program.Core.TheOpen.{Core-F}
+use Rattle.fr_sums.specs.declared.program.Core.{Core, out-Core}
+use Rattle.fr_sums.specs.declared.program.Core.TheOpen.{Core-F}
 use Rattle.fr_engine.specs.Numbers.{number_layer, number_to}
 
 pub number_at_zero : (n : ℕ) (inputs : List ℤ) (e : Core) → n ≡ 0 → number_to n inputs e ≡ None

@@ -2,7 +2,7 @@
 use Rattle.std.specs.declared.alloc.AllocError.{AllocError}
 use Rattle.std.proofs.Common.{◌≡◌, ℕ, List, [], ◌∷◌, ◌++◌, length, map, ℤ, pos, Result, Ok, Err, IfOk, OnOk, ap, sym, ◌∙◌, append_assoc}
 use Rattle.std.proofs.lemmas.List.{append-nil}
-use Rattle.fr_meaning.specs.declared.program.Core.{Core}
+use Rattle.fr_sums.specs.declared.program.Core.{Core}
 use Rattle.fr_engine.specs.declared.nodes.Node.{Node}
 use Rattle.fr_engine.specs.Numbers.{number_to, sum_numbers}
 use Rattle.fr_engine.specs.Nodes.{number_at, node_value, computed}

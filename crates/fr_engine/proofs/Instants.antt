@@ -4,15 +4,15 @@ use Rattle.fr_value.specs.Text.{text-Int}
 use Rattle.fr_value.specs.declared.now.Bad.TheVariants.{WrongType}
 use Rattle.fr_value.specs.declared.now.Now.TheVariants.{Plain, Occ}
 use Rattle.fr_value.specs.declared.value.Value.TheVariants as value
-use Rattle.fr_meaning.specs.declared.program.Program.{Program}
-use Rattle.fr_meaning.specs.declared.inputs.Inputs.{Inputs}
-use Rattle.fr_meaning.specs.declared.kept.Kept.{Kept}
-use Rattle.fr_meaning.specs.declared.kept.Kept.TheVariants as kept
-use Rattle.fr_meaning.specs.Words.{Seen, First, int_seen}
-use Rattle.fr_meaning.specs.Eval.{Parts}
-use Rattle.fr_meaning.specs.Prims.{integer_of}
-use Rattle.fr_meaning.specs.Texts.{Shown, line, unless_last, shown_text, next_shown, instant_text, next_each}
-use Rattle.fr_meaning.specs.Afresh.{State, After, set_all, evaluate, unless_error, told_after, instant}
+use Rattle.fr_sums.specs.declared.program.Program.{Program}
+use Rattle.fr_sums.specs.declared.inputs.Inputs.{Inputs}
+use Rattle.fr_sums.specs.declared.kept.Kept.{Kept}
+use Rattle.fr_sums.specs.declared.kept.Kept.TheVariants as kept
+use Rattle.fr_sums.specs.Words.{Seen, First, int_seen}
+use Rattle.fr_sums.specs.Eval.{Parts}
+use Rattle.fr_sums.specs.Prims.{integer_of}
+use Rattle.fr_sums.specs.Texts.{Shown, line, unless_last, shown_text, next_shown, instant_text, next_each}
+use Rattle.fr_sums.specs.Afresh.{State, After, set_all, evaluate, unless_error, told_after, instant}
 use Rattle.fr_engine.specs.declared.nodes.Node.{Node}
 use Rattle.fr_engine.specs.declared.shows.Root.{Root}
 use Rattle.fr_engine.specs.Nodes.{computed}

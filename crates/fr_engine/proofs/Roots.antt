@@ -1,7 +1,7 @@
 -- The roots of a program's shows.
 use Rattle.std.proofs.Common.{◌≡◌, ℤ, List, [], ◌∷◌, map, Option, refl, ap}
 use Rattle.std.proofs.lemmas.List.{append-nil}
-use Rattle.fr_meaning.specs.declared.program.Program.{Program}
+use Rattle.fr_sums.specs.declared.program.Program.{Program}
 use Rattle.fr_engine.specs.declared.nodes.Node.{Node}
 use Rattle.fr_engine.specs.declared.shows.Root.{Root}
 use Rattle.fr_engine.specs.Shows.{root_number, next_root, Serves, RootsServe}

@@ -5,8 +5,8 @@ use Rattle.fr_value.specs.declared.now.Bad.{Bad}
 use Rattle.fr_value.specs.declared.now.Bad.TheVariants.{Range, WrongType}
 use Rattle.fr_value.specs.declared.now.Now.TheVariants.{Plain, Occ}
 use Rattle.fr_value.specs.declared.value.Value.TheVariants as value
-use Rattle.fr_meaning.specs.Words.{Seen, own}
-use Rattle.fr_meaning.specs.Prims.{fits, first_bad, integer_of, integers, sum_from, sum_typed, sum_unless, add}
+use Rattle.fr_sums.specs.Words.{Seen, own}
+use Rattle.fr_sums.specs.Prims.{fits, first_bad, integer_of, integers, sum_from, sum_typed, sum_unless, add}
 use Rattle.fr_engine.specs.Numbers.{sum_numbers}
 use Rattle.fr_engine.specs.Shows.{any_none}
 

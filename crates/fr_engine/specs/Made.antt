@@ -1,6 +1,6 @@
 -- What the making of nodes leaves.
 use Rattle.std.specs.Prelude.{ℕ, ℤ, ◌≡◌, List, [], ◌++◌, map}
-use Rattle.fr_meaning.specs.declared.program.Core.{Core}
+use Rattle.fr_sums.specs.declared.program.Core.{Core}
 use Rattle.fr_engine.specs.declared.nodes.Node.{Node}
 use Rattle.fr_engine.specs.Numbers.{number_to}
 use Rattle.fr_engine.specs.Nodes.{number_at, computed}

@@ -1,9 +1,9 @@
 -- The numbers that expressions have. An expression has none where its evaluation gives Bad.
 use Rattle.std.specs.Prelude.{ℕ, zero, suc, ℤ, pos, ◌+ℤ◌, if◌then◌else◌, List, [], ◌∷◌, map, slice_get, Option, Some, None}
 use Rattle.std.specs.Option.{option_and_then}
-use Rattle.fr_meaning.specs.declared.program.Core.{Core, out-Core}
-use Rattle.fr_meaning.specs.declared.program.Core.TheOpen.{Core-F}
-use Rattle.fr_meaning.specs.Prims.{fits}
+use Rattle.fr_sums.specs.declared.program.Core.{Core, out-Core}
+use Rattle.fr_sums.specs.declared.program.Core.TheOpen.{Core-F}
+use Rattle.fr_sums.specs.Prims.{fits}
 
 -- the sum of two numbers, where there is a second and 64 bits hold the sum
 abbrev pub plus : ℤ → Option ℤ → Option ℤ

@@ -1,10 +1,10 @@
 -- What contracts see of an engine.
 use Rattle.std.specs.Prelude.{ℕ, ℤ, ◌≡◌, List, Some}
-use Rattle.fr_meaning.specs.declared.program.Program.{Program}
-use Rattle.fr_meaning.specs.declared.inputs.Inputs.{Inputs}
-use Rattle.fr_meaning.specs.declared.kept.Kept.{Kept}
-use Rattle.fr_meaning.specs.Texts.{Shown}
-use Rattle.fr_meaning.specs.Afresh.{State, instant}
+use Rattle.fr_sums.specs.declared.program.Program.{Program}
+use Rattle.fr_sums.specs.declared.inputs.Inputs.{Inputs}
+use Rattle.fr_sums.specs.declared.kept.Kept.{Kept}
+use Rattle.fr_sums.specs.Texts.{Shown}
+use Rattle.fr_sums.specs.Afresh.{State, instant}
 
 -- the program, the values of its inputs, and the last texts of its shows
 pub record Running : Type 0 where

@@ -1,9 +1,9 @@
 -- How two runnings are told apart.
 use Rattle.std.specs.Prelude.{ℕ, ℤ, List, Option, refl}
 use Rattle.std.specs.Coded.{Coded, code_by, coded×, coded_ℕ, coded_ℤ, coded_list, coded_option}
-use Rattle.fr_meaning.specs.declared.program.Program.{Program}
-use Rattle.fr_meaning.specs.contracts.program.Program as program
-use Rattle.fr_meaning.specs.Texts.{Shown}
+use Rattle.fr_sums.specs.declared.program.Program.{Program}
+use Rattle.fr_sums.specs.contracts.program.Program as program
+use Rattle.fr_sums.specs.Texts.{Shown}
 use Rattle.fr_engine.specs.Running.{Running}
 
 -- a show is stored as the pair of its name and its last text

@@ -2,9 +2,9 @@
 use Rattle.std.specs.Prelude.{ℕ, ℤ, Bool, false, ◌||◌, List, [], ◌∷◌, ◌++◌, ◌≡◌, map, Option, Some, None, is_none}
 use Rattle.std.specs.Option.{option_map}
 use Rattle.std.specs.Fmt.{signed_decimal}
-use Rattle.fr_meaning.specs.Texts.{Shown, line, unless_last}
-use Rattle.fr_meaning.specs.declared.program.Program.{Program}
-use Rattle.fr_meaning.specs.declared.program.Show.{Show}
+use Rattle.fr_sums.specs.Texts.{Shown, line, unless_last}
+use Rattle.fr_sums.specs.declared.program.Program.{Program}
+use Rattle.fr_sums.specs.declared.program.Show.{Show}
 use Rattle.fr_engine.specs.declared.nodes.Node.{Node}
 use Rattle.fr_engine.specs.declared.shows.Root.{Root}
 use Rattle.fr_engine.specs.Nodes.{number_at, computed}

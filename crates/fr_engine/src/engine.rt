@@ -1,13 +1,13 @@
 ghost use Rattle.std.specs.Prelude.{◌≡◌, ◌++◌, ◌∷◌, [], ℕ, map, IfOk, IfErr, None};
-ghost use Rattle.fr_meaning.specs.declared.kept.Kept.{Kept};
-ghost use Rattle.fr_meaning.specs.Afresh.{beginning, set_all, instant as instant_after};
+ghost use Rattle.fr_sums.specs.declared.kept.Kept.{Kept};
+ghost use Rattle.fr_sums.specs.Afresh.{beginning, set_all, instant as instant_after};
 ghost use Rattle.fr_engine.specs.Running.{running, state_of, Goes};
 ghost use Rattle.fr_engine.specs.Shows.{RootsServe};
 
 use crate::making::build;
 use crate::nodes::{Node, compute};
 use crate::shows::{Root, lacks_number, remember, text_of};
-use fr_meaning::{Input, Inputs, Program, Set, Show};
+use fr_sums::{Input, Inputs, Program, Set, Show};
 use sqlite_items::Items;
 use std::alloc::{AllocError, Global};
 use std::marker::Model;

@@ -2,7 +2,7 @@ ghost use Rattle.std.specs.Prelude.{◌≡◌, IfOk, OnOk, ◌++◌, ◌∷◌, 
 ghost use Rattle.fr_engine.specs.Made.{Makes, MakesAll};
 
 use crate::nodes::Node;
-use fr_meaning::Core;
+use fr_sums::Core;
 use sqlite_items::Items;
 use std::alloc::{AllocError, Global};
 

@@ -1,7 +1,7 @@
 ghost use Rattle.std.specs.Prelude.{◌≡◌, ◌++◌, map, IfOk, OnOk};
 ghost use Rattle.std.specs.Fmt.{signed_decimal};
 ghost use Rattle.std.specs.Str.{bytes_eq};
-ghost use Rattle.fr_meaning.specs.Texts.{line};
+ghost use Rattle.fr_sums.specs.Texts.{line};
 ghost use Rattle.fr_engine.specs.Nodes.{number_at as number_there};
 ghost use Rattle.fr_engine.specs.Shows.{any_none, root_number, root_text, roots_text, next_root};
 

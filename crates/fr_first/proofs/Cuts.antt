@@ -2,8 +2,8 @@
 use Rattle.std.specs.Prelude.{ℕ, suc, zero, ◌<◌, ◌≡◌, ◌==◌, false, List, [], ◌∷◌, ◌++◌, length, Option, Some, None}
 use Rattle.std.proofs.Common.{refl, inl, inr, sym, ◌∙◌, ap, take, drop, get_or, arith}
 use Rattle.std.proofs.lemmas.Bool.Decides.{eqb_tells}
-use Rattle.fr_meaning.specs.Script.{lines, before_lines, line_of, each_line}
-use Rattle.fr_meaning.specs.declared.inputs.Line.{Line}
+use Rattle.fr_sums.specs.Script.{lines, before_lines, line_of, each_line}
+use Rattle.fr_sums.specs.declared.inputs.Line.{Line}
 use Rattle.std.specs.Option.{option_map, option_and_then}
 use Rattle.std.proofs.lemmas.List.{append_assoc}
 

@@ -10,7 +10,7 @@ use Rattle.std.proofs.lemmas.Map.Text.{is_eq-slice_cmp}
 use Rattle.std.proofs.lemmas.Slice.Eq.{bytes_eq-Decides}
 use Rattle.std.proofs.lemmas.List.{take_more, map-append}
 use Rattle.std.proofs.lemmas.Cmp.{nat_list_eq_equiv}
-use Rattle.fr_meaning.specs.Names.{is_among, are_distinct}
+use Rattle.fr_sums.specs.Names.{is_among, are_distinct}
 
 -- the set has these names
 abbrev pub Seen : List (List ℕ) → BTreeSet (Bor (List ℕ)) → Type 0

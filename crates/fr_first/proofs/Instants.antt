@@ -3,10 +3,10 @@ use Rattle.std.specs.Prelude.{◌≡◌, ◌==◌, if◌then◌else◌, List, []
 use Rattle.std.proofs.Common.{refl, inl, inr, ap, sym, ◌∙◌}
 use Rattle.std.proofs.lemmas.Bool.Decides.{eqb_tells}
 use Rattle.std.proofs.lemmas.List.{append_assoc}
-use Rattle.fr_meaning.specs.declared.inputs.Inputs.{Inputs}
-use Rattle.fr_meaning.specs.declared.inputs.Line.{Line}
-use Rattle.fr_meaning.specs.declared.inputs.Set.{Set}
-use Rattle.fr_meaning.specs.Script.{alone, before_instants, instants}
+use Rattle.fr_sums.specs.declared.inputs.Inputs.{Inputs}
+use Rattle.fr_sums.specs.declared.inputs.Line.{Line}
+use Rattle.fr_sums.specs.declared.inputs.Set.{Set}
+use Rattle.fr_sums.specs.Script.{alone, before_instants, instants}
 
 -- a line behind an instant
 abbrev joined : Inputs → Line → List Inputs

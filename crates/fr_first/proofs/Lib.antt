@@ -4,3 +4,6 @@ mod Programs
 mod Cuts
 mod Numerals
 mod Instants
+pub mod Verdicts
+mod Examples
+mod Sums

@@ -12,8 +12,8 @@ use Rattle.std.proofs.lemmas.Bool.{and_parts}
 use Rattle.std.proofs.lemmas.Bool.Decides.{eqb_tells, nat_tests}
 use Rattle.std.proofs.lemmas.Str.{IsUtf8-from_ascii}
 use Rattle.std.proofs.lemmas.Str.Parse.{IsNumeralModel, numerals_by_value, parse_digits}
-use Rattle.fr_meaning.specs.Prims.{fits}
-use Rattle.fr_meaning.specs.Script.{all_digits, is_numeral, time_of, integer_of}
+use Rattle.fr_sums.specs.Prims.{fits}
+use Rattle.fr_sums.specs.Script.{all_digits, is_numeral, time_of, integer_of}
 
 -- the test is std's own, in other words
 own : IsNumeralModel (λ ds. all_digits ds ≡ true) (digits_value 10)

@@ -7,11 +7,11 @@ use Rattle.fr_value.proofs.Meet.{same_some}
 use Rattle.fr_value.specs.declared.value.Datum.{Datum}
 use Rattle.fr_value.specs.declared.value.Value.{Value}
 use Rattle.fr_value.specs.declared.value.Value.TheVariants as value
-use Rattle.fr_meaning.specs.declared.program.Core.{Core}
-use Rattle.fr_meaning.specs.declared.program.Core.TheVariants as core
-use Rattle.fr_meaning.specs.declared.program.Input.{Input}
-use Rattle.fr_meaning.specs.declared.program.Show.{Show}
-use Rattle.fr_meaning.specs.Forms.{is_symbol, is_symbol_at, symbol_at, input_with, input_at, input_of, each_expr, expr_at, expr_to, expr_of, show_with, show_at, show_of}
+use Rattle.fr_sums.specs.declared.program.Core.{Core}
+use Rattle.fr_sums.specs.declared.program.Core.TheVariants as core
+use Rattle.fr_sums.specs.declared.program.Input.{Input}
+use Rattle.fr_sums.specs.declared.program.Show.{Show}
+use Rattle.fr_sums.specs.Forms.{is_symbol, is_symbol_at, symbol_at, input_with, input_at, input_of, each_expr, expr_at, expr_to, expr_of, show_with, show_at, show_of}
 use Rattle.fr_first.specs.Parts.{three_of, parts_at, begins_with}
 
 pub symbol_of : (name : List ℕ) (v : Value) → is_symbol name (datum_of v) ≡ is_symbol_at name v

@@ -2,10 +2,10 @@
 use Rattle.std.specs.Prelude.{◌≡◌, ℕ, true, false, if◌then◌else◌, List, map, Option, Some, None}
 use Rattle.std.proofs.Common.{refl, sym, ◌∙◌, ap}
 use Rattle.fr_value.specs.declared.value.Datum.{Datum}
-use Rattle.fr_meaning.specs.declared.program.Input.{Input}
-use Rattle.fr_meaning.specs.declared.program.Show.{Show}
-use Rattle.fr_meaning.specs.declared.program.Program.{Program}
-use Rattle.fr_meaning.specs.Forms.{inputs_in, shows_in, are_forms, are_named, program_with, program_of}
+use Rattle.fr_sums.specs.declared.program.Input.{Input}
+use Rattle.fr_sums.specs.declared.program.Show.{Show}
+use Rattle.fr_sums.specs.declared.program.Program.{Program}
+use Rattle.fr_sums.specs.Forms.{inputs_in, shows_in, are_forms, are_named, program_with, program_of}
 
 abbrev names : List Input → List (List ℕ)
 names is = map (λ i. i.name) is

@@ -1,2 +1,4 @@
 pub mod Parts
+pub mod Course
+pub mod Sums
 pub mod Stops

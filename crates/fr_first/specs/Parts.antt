@@ -6,8 +6,8 @@ use Rattle.fr_value.specs.Data.{value_of}
 use Rattle.fr_value.specs.declared.value.Datum.{Datum}
 use Rattle.fr_value.specs.declared.value.Value.{Value}
 use Rattle.fr_value.specs.declared.value.Value.TheVariants as value
-use Rattle.fr_meaning.specs.declared.program.Input.{Input}
-use Rattle.fr_meaning.specs.Forms.{is_symbol, is_symbol_at, symbol_at}
+use Rattle.fr_sums.specs.declared.program.Input.{Input}
+use Rattle.fr_sums.specs.Forms.{is_symbol, is_symbol_at, symbol_at}
 
 -- the items of a list of exactly three
 abbrev pub three_of : List Datum → Option (Value × Value × Value)

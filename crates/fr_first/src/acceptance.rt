@@ -1,76 +1,59 @@
-ghost use Rattle.std.specs.Prelude.{◌≡◌, ℕ, ◌++◌, map, drop, IfOk, IfErr, MatchOption, true, false, codes};
+ghost use Rattle.std.specs.Prelude.{◌≡◌, ℕ, ◌++◌, map, drop, Some, IfOk, IfErr, MatchOption, true, false, codes};
 ghost use Rattle.std.specs.Option.{option_map};
 ghost use Rattle.fr_value.specs.declared.value.Value.TheVariants as value;
 ghost use Rattle.fr_value.specs.Data.{datum_of, data_of};
-ghost use Rattle.fr_meaning.specs.Names.{are_distinct, is_free};
-ghost use Rattle.fr_meaning.specs.Forms.{is_symbol_at, input_of, each_expr, expr_at, expr_to, show_of, inputs_in, shows_in, are_forms, all_free, are_named, program_of};
-ghost use Rattle.fr_meaning.specs.Accepted.{IsProgram};
+ghost use Rattle.fr_sums.specs.Names.{are_distinct, is_free};
+ghost use Rattle.fr_sums.specs.Forms.{is_symbol_at, input_of, each_expr, expr_at, expr_to, show_of, inputs_in, shows_in, are_forms, all_free, are_named, program_of};
+ghost use Rattle.fr_first.specs.Sums.{Reads};
 ghost use Rattle.fr_first.specs.Parts.{three_of, parts_at, begins_with, input_named};
-ghost use Rattle.fr_first.specs.Stops.{Tells};
-ghost use Rattle.fr_first.specs.declared.acceptance.AcceptStop.TheVariants as AcceptStop;
+ghost use Rattle.fr_first.specs.Stops.{Tells, IsUnbuilt};
 
 use crate::names::{are_distinct, is_free, place_of};
-use fr_meaning::{Core, Input, Program, ProgramKind, Show};
-use fr_reader::{ReadStop, read_all};
+use fr_show::{AcceptStop, ProgramKind, read_forms};
+use fr_sums::{Core, Input, Program, Show};
 use fr_value::{List, Name, Value};
 use sqlite_items::Items;
 use std::alloc::{AllocError, Global};
 
-/// The greatest length of a program in bytes.
-const LIMIT: usize = 1_048_576;
-
 /// How deep expressions nest: no datum nests above 64, and its leaves stand one level below.
 const LEVELS: u32 = 65;
 
-/// Why a text isn't accepted.
-#[derive(Debug, Drop)]
-pub enum AcceptStop {
-    /// There was no memory.
-    Memory(AllocError),
-    /// The text is refused at this form, counted from 1; form 0 is the text as a whole.
-    Refused { form: u32, kind: ProgramKind },
-}
-
-impl From<AllocError> for AcceptStop {
-    ghost use Rattle.std.specs.Prelude.{◌≡◌};
-    ghost use Rattle.fr_first.specs.declared.acceptance.AcceptStop.TheVariants as AcceptStop;
-
-    ghost from_gives = { λ e r. r ≡ AcceptStop.Memory e };
-
-    fn from(e: AllocError) -> AcceptStop {
-        AcceptStop::Memory(e)
-    }
-}
-
-/// The program that a text is: forms `(define-input NAME INT)` and `(show NAME E)` in any order, at most 1,048,576 bytes. E is
-/// an integer, the name of an input, or `(+ E ...)`.
+/// The program of inputs, sums and shows that a text is, which is what `run` can run today: forms `(define-input NAME INT)` and
+/// `(show NAME E)` in any order. E is an integer, the name of an input, or `(+ E ...)`.
 ///
-/// `Refused` is the text's one verdict: at form 0 with `Length` where it is longer, at the form from which on it doesn't read
-/// with `Text`, and else at form 0 with `Unbuilt` where what it reads as is no such program. `Memory` tells nothing of the text.
-/// A name in an expression is looked up among the inputs one after the other; all else takes time in the bytes, but for the
-/// sorting of names.
-pub fn accept(alloc: Global, bytes: &[u8]) -> Result<Program, AcceptStop>
-    ensures accepted { IfOk result (IsProgram bytes.now) }
+/// `Refused` is the text's one verdict: that of the whole language, or at form 0 with `Unbuilt` where the text is accepted
+/// but is no such program. `Memory` tells nothing of the text. A name in an expression is looked up among the inputs one
+/// after the other; all else takes time in the bytes, but for the sorting of names.
+pub fn accept_sums(alloc: Global, bytes: &[u8]) -> Result<Program, AcceptStop>
+    ensures accepted { IfOk result (λ p. Reads bytes.now (Some p)) }
     ensures refused { IfErr result (Tells bytes.now) }
 {
-    if bytes.len() > LIMIT {
-        return Err(refusal(0, ProgramKind::Length));
-    }
-    let forms = match read_all(alloc, bytes) {
+    let forms = match read_forms(alloc, bytes) {
         Ok(forms) => forms,
-        Err(ReadStop::Memory(e)) => return Err(AcceptStop::Memory(e)),
-        Err(ReadStop::Refused(form)) => return Err(refusal(form, ProgramKind::Text)),
+        Err(stop) => return Err(stop),
     };
-    match program_of(alloc, &forms)? {
-        Some(program) => Ok(program),
-        None => Err(refusal(0, ProgramKind::Unbuilt)),
+    match fr_show::program_of(alloc, bytes, &forms) {
+        Ok(_core) => {}
+        Err(stop) => return Err(stop),
+    }
+    match sums_of(alloc, &forms) {
+        Ok(sums) => Ok(sums),
+        Err(stop) => Err(stop),
     }
 }
 
-fn refusal(form: u32, kind: ProgramKind) -> AcceptStop
-    ensures { result ≡ AcceptStop.Refused form kind }
+/// The program of sums that accepted forms are, or their refusal as unbuilt.
+fn sums_of(alloc: Global, forms: &[Value]) -> Result<Program, AcceptStop>
+    ensures some { IfOk result (λ p. program_of (data_of forms.now) ≡ Some p) }
+    ensures none { IfErr result (IsUnbuilt (data_of forms.now)) }
 {
-    AcceptStop::Refused { form, kind }
+    match program_of(alloc, forms)? {
+        Some(program) => Ok(program),
+        None => Err(AcceptStop::Refused {
+            form: 0,
+            kind: ProgramKind::Unbuilt,
+        }),
+    }
 }
 
 /// The program that these forms are, or none.
@@ -362,7 +345,7 @@ mod tests {
     }
 
     fn judged(alloc: Global, text: &[u8]) -> Result<String, AllocError> {
-        match accept(alloc, text) {
+        match accept_sums(alloc, text) {
             Ok(program) => line_of(alloc, &program),
             Err(AcceptStop::Refused { form, kind }) => format!(in alloc; "form {form}: {kind:?}"),
             Err(AcceptStop::Memory(e)) => Err(e),

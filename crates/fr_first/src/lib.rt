@@ -6,5 +6,5 @@ mod lines;
 mod names;
 mod script;
 
-pub use acceptance::{AcceptStop, accept};
+pub use acceptance::accept_sums;
 pub use script::read_script;

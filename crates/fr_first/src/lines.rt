@@ -1,8 +1,8 @@
 ghost use Rattle.std.specs.Prelude.{◌≡◌, ◌<◌, ◌∷◌, Some, None, map, length, IfOk, MatchOption};
-ghost use Rattle.fr_meaning.specs.Script.{lines, cut, all_digits, time_of, integer_of, line_of, each_line};
+ghost use Rattle.fr_sums.specs.Script.{lines, cut, all_digits, time_of, integer_of, line_of, each_line};
 
 use crate::names::place_of;
-use fr_meaning::{Input, Line, Set};
+use fr_sums::{Input, Line, Set};
 use sqlite_items::Items;
 use std::alloc::{AllocError, Global};
 use std::str;

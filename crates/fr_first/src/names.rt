@@ -1,7 +1,7 @@
 ghost use Rattle.std.specs.Prelude.{◌≡◌, map, IfOk};
-ghost use Rattle.fr_meaning.specs.Names.{place_of, is_among, are_distinct, is_free};
+ghost use Rattle.fr_sums.specs.Names.{place_of, is_among, are_distinct, is_free};
 
-use fr_meaning::Input;
+use fr_sums::Input;
 use std::alloc::{AllocError, Global};
 use std::collections::BTreeSet;
 
@@ -110,7 +110,7 @@ fn is_among(name: &[u8], names: &[&str]) -> bool
 }
 
 /// Whether a name may be defined at top level: it is no keyword, no primitive's name and not `now`.
-#[tactic(auto, unfolding(fr_meaning::specs::Names::keywords, fr_meaning::specs::Names::primitive_names))]
+#[tactic(auto, unfolding(fr_sums::specs::Names::keywords, fr_sums::specs::Names::primitive_names))]
 pub fn is_free(name: &[u8]) -> bool
     ensures { result ≡ is_free name.now }
 {

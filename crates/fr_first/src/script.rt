@@ -1,9 +1,9 @@
 ghost use Rattle.std.specs.Prelude.{◌≡◌, ◌++◌, ◌∷◌, [], List, IfOk, OnOk};
-ghost use Rattle.fr_meaning.specs.declared.inputs.Line.{Line as LineValue};
-ghost use Rattle.fr_meaning.specs.Script.{never_fall, instants, alone, sets_input, sets_once, each_sets_once, instants_of, script_of};
+ghost use Rattle.fr_sums.specs.declared.inputs.Line.{Line as LineValue};
+ghost use Rattle.fr_sums.specs.Script.{never_fall, instants, alone, sets_input, sets_once, each_sets_once, instants_of, script_of};
 
 use crate::lines::each_line;
-use fr_meaning::{Inputs, Line, Program, Set};
+use fr_sums::{Inputs, Line, Program, Set};
 use sqlite_items::Items;
 use std::alloc::{AllocError, Global};
 
@@ -119,7 +119,7 @@ fn instants_of(alloc: Global, lines: &[Line]) -> Result<Option<Items<Inputs>>, A
 /// # Errors
 ///
 /// Only for want of memory.
-#[tactic(auto, unfolding(fr_meaning::specs::Script::script_of))]
+#[tactic(auto, unfolding(fr_sums::specs::Script::script_of))]
 pub fn read_script(
     alloc: Global,
     program: &Program,

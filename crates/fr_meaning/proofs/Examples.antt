@@ -1,92 +1,95 @@
 -- Worked examples, computed from the definitions.
-use Rattle.std.proofs.Common.{◌≡◌, ◌∙◌, ℕ, suc, ℤ, pos, negsuc, List, [], ◌∷◌, Option, Some, None, Err, refl, ap, codes}
-use Rattle.std.specs.Fmt.{digits}
-use Rattle.fr_value.specs.Text.{text-Int}
-use Rattle.fr_value.specs.declared.now.Bad.TheVariants.{Range}
-use Rattle.fr_meaning.specs.declared.program.Core.TheVariants as core
-use Rattle.fr_meaning.specs.declared.program.Program.{Program}
-use Rattle.fr_meaning.specs.declared.kept.Kept.{Kept}
-use Rattle.fr_meaning.specs.declared.kept.Kept.TheVariants as kept
-use Rattle.fr_meaning.specs.declared.inputs.Inputs.{Inputs}
-use Rattle.fr_meaning.specs.Words.{int_seen}
-use Rattle.fr_meaning.specs.Prims.{add}
-use Rattle.fr_meaning.specs.Eval.{Parts, parts, eval_to}
-use Rattle.fr_meaning.specs.Texts.{instant_text}
-use Rattle.fr_meaning.specs.Afresh.{State, After, evaluate, instant, instant_over, beginning, first_instant}
-use Rattle.fr_meaning.specs.Script.{script_of, lines}
-use Rattle.fr_meaning.specs.Course.{onward, after, over_script, course_from, run_course}
-use Rattle.fr_meaning.proofs.Levels.{eval-Lit, eval-Input, eval-Add}
+use Rattle.std.proofs.Common.{◌≡◌, ◌∙◌, ℕ, suc, ℤ, pos, negsuc, List, [], ◌∷◌, Option, Some, None, Ok, Err, true, false, refl, ap, codes}
+use Rattle.fr_value.specs.declared.value.Value.TheVariants as value
+use Rattle.fr_value.specs.declared.now.Now.TheVariants.{Plain, Occ}
+use Rattle.fr_value.specs.declared.now.Bad.TheVariants as bad
+use Rattle.fr_value.specs.declared.primitive.Primitive.TheVariants as prim
+use Rattle.fr_core.specs.declared.core_form.Core.{Core}
+use Rattle.fr_core.specs.declared.core_form.Core.TheVariants as core
+use Rattle.fr_core.specs.declared.kept.Key.TheVariants as key
+use Rattle.fr_core.specs.declared.kept.Kept.{Kept}
+use Rattle.fr_core.specs.declared.kept.Kept.TheVariants as kept
+use Rattle.fr_meaning.specs.Words.{Done, plain, occurs}
+use Rattle.fr_meaning.specs.Primitives.{applied}
+use Rattle.fr_meaning.specs.Cells.{child, datum_cell, payload_cell, behind_datum, behind_payload, under_key}
+use Rattle.fr_meaning.specs.Evaluation.{World, eval_to}
+use Rattle.fr_meaning.proofs.Levels.{eval-Lit, eval-Var, eval-Source, eval-If, eval-PrimApp, eval-Hold, eval-CollectB, eval-Changes, eval-Delay, eval-DelayE, eval-Feedback, eval-Repeat}
+use Rattle.fr_meaning.proofs.Trees.{opens-Nothing, opens-Group, opens-Datum, opens-Payload, opens-Switch}
 
--- (define-input x 1)(show y (+ x 1))
-abbrev sum : Program
-sum = record { inputs = record { name = codes "x"; first = pos 1 } ∷ []; shows = record { name = codes "y"; expr = core.Add (core.Input 0 ∷ core.Lit (pos 1) ∷ []) } ∷ [] }
+-- source 1 is an input of value 1, or an event
+abbrev with_input : World
+with_input = record { functions = []; sources = Plain (value.Int (pos 0)) ∷ Plain (value.Int (pos 1)) ∷ [] }
 
-abbrev sum_parts : ℤ → Parts
-sum_parts y = record { values = int_seen y ∷ []; kepts = kept.Group (kept.Nothing ∷ kept.Nothing ∷ []) ∷ []; cost = 0; first = None }
+abbrev with_event : World
+with_event = record { functions = []; sources = Plain (value.Int (pos 3)) ∷ Occ (Some (value.Int (pos 5))) ∷ [] }
 
-at_levels : (n : ℕ) (k : Kept) → parts (eval_to (suc (suc n)) (record { inputs = pos 1 ∷ [] })) k 0 (core.Add (core.Input 0 ∷ core.Lit (pos 1) ∷ []) ∷ []) ≡ sum_parts (pos 2)
-at_levels n k = simp (eval-Add, eval-Input, eval-Lit)
+abbrev quiet_event : World
+quiet_event = record { functions = []; sources = Plain (value.Int (pos 3)) ∷ Occ None ∷ [] }
 
--- a partial sum that leaves 64 bits is Range, also where the whole sum would not
-overflow : add (int_seen (pos 9223372036854775807) ∷ int_seen (pos 1) ∷ int_seen (negsuc 4) ∷ []) ≡ Err Range
-overflow = refl
+abbrev int : ℤ → Core
+int n = core.Lit (value.Int n)
 
--- the last newline may be missing, and an empty line is a line
-lines_example : lines (codes "5 x 4\n\n6 x 5") ≡ codes "5 x 4" ∷ [] ∷ codes "6 x 5" ∷ []
-lines_example = refl
+abbrev source : Core
+source = core.Source (record { 0 = 1 })
 
-one_line : script_of sum (codes "5 x 4") ≡ Some (record { time = 5; sets = record { input = 0; value = pos 4 } ∷ [] } ∷ [])
-unfolding script_of
-one_line = refl
+-- (+ x 1)
+sum : (n : ℕ) → (eval_to (suc (suc n)) with_input (core.PrimApp prim.Add (source ∷ int (pos 1) ∷ [])) [] kept.Nothing).value ≡ plain (value.Int (pos 2))
+unfolding applied
+sum n = simp (eval-PrimApp, eval-Source, eval-Lit)
 
-set_twice : script_of sum (codes "5 x 4\n5 x 5\n") ≡ None
-unfolding script_of
-set_twice = refl
+-- (collect-b e 0 (lambda (v a) (+ a v)))
+abbrev total : Core
+total = core.CollectB source (int (pos 0)) (core.PrimApp prim.Add (core.Var (record { 0 = 1 }) ∷ core.Var (record { 0 = 0 }) ∷ []))
 
-falling : script_of sum (codes "5 x 4\n3 x 5\n") ≡ None
-unfolding script_of
-falling = refl
+begins_with_init : (n : ℕ) → (eval_to (suc (suc (suc n))) quiet_event total [] kept.Nothing).value ≡ plain (value.Int (pos 0))
+unfolding applied child datum_cell behind_datum
+begins_with_init n = simp (eval-CollectB, eval-PrimApp, eval-Var, eval-Lit, eval-Source, opens-Nothing)
 
-first_parts : (k : Kept) → evaluate sum (pos 1 ∷ []) k ≡ sum_parts (pos 2)
-first_parts k = at_levels 1998 k
+adds_to_the_state : (n : ℕ) → (eval_to (suc (suc (suc n))) with_event total [] (kept.Datum (value.Int (pos 37)) kept.Nothing)).value ≡ plain (value.Int (pos 42))
+unfolding applied child datum_cell behind_datum
+adds_to_the_state n = simp (eval-CollectB, eval-PrimApp, eval-Var, eval-Lit, eval-Source, opens-Nothing, opens-Datum)
 
-at_levels_4 : (n : ℕ) (k : Kept) → parts (eval_to (suc (suc n)) (record { inputs = pos 4 ∷ [] })) k 0 (core.Add (core.Input 0 ∷ core.Lit (pos 1) ∷ []) ∷ []) ≡ sum_parts (pos 5)
-at_levels_4 n k = simp (eval-Add, eval-Input, eval-Lit)
+-- (delay 0 x) shows the kept value, and keeps that of x
+delayed : (n : ℕ) → (eval_to (suc (suc n)) with_input (core.Delay (int (pos 0)) source) [] (kept.Datum (value.Int (pos 9)) kept.Nothing)).value ≡ plain (value.Int (pos 9))
+unfolding child datum_cell behind_datum
+delayed n = simp (eval-Delay, eval-Lit, eval-Source, opens-Nothing, opens-Datum)
 
-next_parts : (k : Kept) → evaluate sum (pos 4 ∷ []) k ≡ sum_parts (pos 5)
-next_parts k = at_levels_4 1998 k
+-- (delay 0 e) errs, though it has its value
+delay_of_an_event : (n : ℕ) → (eval_to (suc (suc n)) quiet_event (core.Delay (int (pos 0)) source) [] kept.Nothing).first ≡ Some ([], bad.NotData)
+unfolding child datum_cell behind_datum
+delay_of_an_event n = simp (eval-Delay, eval-Lit, eval-Source, opens-Nothing)
 
--- the first text of a show is always printed, and later one that differs from the last
-first_text : instant_text 0 (record { name = codes "y"; last = None } ∷ []) (int_seen (pos 2) ∷ []) ≡ codes "0 y 2\n"
-unfolding digits
-first_text = simp text-Int
+-- (feedback (n 0) (+ n 1))
+abbrev counter : Core
+counter = core.Feedback (int (pos 0)) (core.PrimApp prim.Add (core.Var (record { 0 = 0 }) ∷ int (pos 1) ∷ []))
 
-next_text : instant_text 5 (record { name = codes "y"; last = Some (codes "2") } ∷ []) (int_seen (pos 5) ∷ []) ≡ codes "5 y 5\n"
-unfolding digits
-next_text = simp text-Int
+feedback_begins : (n : ℕ) → (eval_to (suc (suc (suc n))) with_input counter [] kept.Nothing).value ≡ plain (value.Int (pos 1))
+unfolding applied child datum_cell behind_datum
+feedback_begins n = simp (eval-Feedback, eval-PrimApp, eval-Var, eval-Lit, opens-Nothing)
 
-same_text : instant_text 5 (record { name = codes "y"; last = Some (codes "2") } ∷ []) (int_seen (pos 2) ∷ []) ≡ []
-unfolding digits
-same_text = simp text-Int
+feedback_goes_on : (n : ℕ) → (eval_to (suc (suc (suc n))) with_input counter [] (kept.Datum (value.Int (pos 1)) kept.Nothing)).value ≡ plain (value.Int (pos 2))
+unfolding applied child datum_cell behind_datum
+feedback_goes_on n = simp (eval-Feedback, eval-PrimApp, eval-Var, eval-Lit, opens-Nothing, opens-Datum)
 
--- the state after instant 0
-abbrev second : State
-second = record { inputs = pos 1 ∷ []; kept = kept.Group (kept.Group (kept.Nothing ∷ kept.Nothing ∷ []) ∷ []); shown = record { name = codes "y"; last = Some (codes "2") } ∷ [] }
+-- a switch that chose otherwise before begins with nothing kept
+abbrev branch : Core
+branch = core.If (core.Lit (value.Bool true)) total (int (negsuc 0))
 
-abbrev third : State
-third = record { inputs = pos 4 ∷ []; kept = kept.Group (kept.Group (kept.Nothing ∷ kept.Nothing ∷ []) ∷ []); shown = record { name = codes "y"; last = Some (codes "5") } ∷ [] }
+returns_to_a_branch : (n : ℕ)
+    → (eval_to (suc (suc (suc (suc n)))) with_event branch [] (kept.Group (kept.Nothing ∷ kept.Switch (key.Test false) (kept.Datum (value.Int (pos 37)) kept.Nothing) ∷ []))).value ≡ plain (value.Int (pos 5))
+unfolding applied child datum_cell behind_datum under_key
+returns_to_a_branch n = simp (eval-If, eval-CollectB, eval-PrimApp, eval-Var, eval-Lit, eval-Source, opens-Nothing, opens-Group, opens-Switch, opens-Datum)
 
-instant_0 : instant sum (beginning sum) first_instant ≡ Some (record { text = codes "0 y 2\n"; next = second })
-unfolding instant digits
-instant_0 = ap (λ (ps : Parts). instant_over (beginning sum) 0 (pos 1 ∷ []) ps) (first_parts kept.Nothing) ∙ simp text-Int
+stays_in_a_branch : (n : ℕ)
+    → (eval_to (suc (suc (suc (suc n)))) with_event branch [] (kept.Group (kept.Nothing ∷ kept.Switch (key.Test true) (kept.Datum (value.Int (pos 37)) kept.Nothing) ∷ []))).value ≡ plain (value.Int (pos 42))
+unfolding applied child datum_cell behind_datum under_key
+stays_in_a_branch n = simp (eval-If, eval-CollectB, eval-PrimApp, eval-Var, eval-Lit, eval-Source, opens-Nothing, opens-Group, opens-Switch, opens-Datum)
 
-instant_5 : instant sum second (record { time = 5; sets = record { input = 0; value = pos 4 } ∷ [] }) ≡ Some (record { text = codes "5 y 5\n"; next = third })
-unfolding instant digits
-instant_5 = ap (λ (ps : Parts). instant_over second 5 (pos 4 ∷ []) ps) (next_parts second.kept) ∙ simp text-Int
+-- (repeat (a 1) 3 (* a 2)) costs a unit for each turn
+doubled : (n : ℕ) → (eval_to (suc (suc (suc n))) with_input (core.Repeat (int (pos 1)) (int (pos 3)) (core.PrimApp prim.Mul (core.Var (record { 0 = 0 }) ∷ int (pos 2) ∷ []))) [] kept.Nothing).value ≡ plain (value.Int (pos 8))
+unfolding applied child
+doubled n = simp (eval-Repeat, eval-PrimApp, eval-Var, eval-Lit, opens-Nothing)
 
--- the run of the program over the script `5 x 4`
-first_run : run_course sum (codes "5 x 4") ≡ record { texts = codes "0 y 2\n" ∷ codes "5 y 5\n" ∷ []; stop = None }
-first_run =
-    ap (λ (o : Option (List Inputs)). onward 0 (instant sum (beginning sum) first_instant) (over_script sum o)) one_line
-    ∙ ap (λ (o : Option After). onward 0 o (over_script sum (Some (record { time = 5; sets = record { input = 0; value = pos 4 } ∷ [] } ∷ [])))) instant_0
-    ∙ ap (λ (o : Option After). after (codes "0 y 2\n" ∷ []) (onward 5 o (λ next. course_from sum next []))) instant_5
+doubling_costs : (n : ℕ) → (eval_to (suc (suc (suc n))) with_input (core.Repeat (int (pos 1)) (int (pos 3)) (core.PrimApp prim.Mul (core.Var (record { 0 = 0 }) ∷ int (pos 2) ∷ []))) [] kept.Nothing).cost ≡ 3
+unfolding applied child
+doubling_costs n = simp (eval-Repeat, eval-PrimApp, eval-Var, eval-Lit, opens-Nothing)

@@ -1,3 +1,3 @@
-pub mod Verdicts
 pub mod Levels
+pub mod Trees
 mod Examples

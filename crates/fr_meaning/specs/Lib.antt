@@ -1,10 +1,7 @@
 pub mod Words
-pub mod Prims
-pub mod Eval
+pub mod Primitives
+pub mod Cells
+pub mod States
+pub mod Evaluation
 pub mod Texts
 pub mod Afresh
-pub mod Names
-pub mod Script
-pub mod Course
-pub mod Forms
-pub mod Accepted

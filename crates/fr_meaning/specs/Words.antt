@@ -1,26 +1,26 @@
 -- What an evaluation answers.
-use Rattle.std.specs.Prelude.{ℕ, ℤ, List, [], ◌∷◌, Option, Some, None, Result, Ok, Err, slice_get, unwrap_or}
+use Rattle.std.specs.Prelude.{ℕ, List, [], ◌∷◌, Bool, Option, Some, None, Result, Ok, Err}
 use Rattle.fr_value.specs.declared.now.Now.{Now}
-use Rattle.fr_value.specs.declared.now.Now.TheVariants.{Plain}
+use Rattle.fr_value.specs.declared.now.Now.TheVariants.{Plain, Occ}
 use Rattle.fr_value.specs.declared.now.Bad.{Bad}
-use Rattle.fr_value.specs.declared.value.Value.TheVariants as value
-use Rattle.fr_meaning.specs.declared.kept.Kept.{Kept, out-Kept}
-use Rattle.fr_meaning.specs.declared.kept.Kept.TheOpen.{Kept-F}
-use Rattle.fr_meaning.specs.declared.kept.Kept.TheVariants as kept
+use Rattle.fr_value.specs.declared.now.Bad.TheVariants.{WrongType, NotData, NotEvent}
+use Rattle.fr_value.specs.declared.value.Value.{Value}
+use Rattle.fr_prims.specs.Data.{is_true}
+use Rattle.fr_core.specs.declared.kept.Kept.{Kept}
 
 -- a plain value, the state of an event, or Bad with its kind
 abbrev pub Seen : Type 0
 Seen = Result Now Bad
 
--- the integer as a value
-abbrev pub int_seen : ℤ → Seen
-int_seen n = Ok (Plain (value.Int n))
+-- the values of the variables in scope, from the outermost on
+abbrev pub Env : Type 0
+Env = List Seen
 
 -- the path and the kind of the first error, or none
 abbrev pub First : Type 0
 First = Option (List ℕ × Bad)
 
--- an evaluation: its value, what it keeps, its cost, and its first error
+-- an evaluation: its value, what it keeps, its cost, and its first error; it errs where there is one
 pub record Done : Type 0 where
   pub value : Seen
   pub kept : Kept
@@ -37,11 +37,28 @@ abbrev pub own : Seen → First
 own (Ok v) = None
 own (Err b) = Some ([], b)
 
--- part number i of what a tree keeps
-abbrev pub child_at : Kept-F Kept → ℕ → Kept
-child_at (Kept-F.Group ks) i = unwrap_or (slice_get ks i) kept.Nothing
-child_at Kept-F.Nothing i = kept.Nothing
+-- a value as a plain value
+abbrev pub plain : Value → Seen
+plain v = Ok (Plain v)
 
--- the tree that was kept for part number i, Nothing where the tree has another shape
-unfoldable pub child : Kept → ℕ → Kept
-child k i = child_at (out-Kept k) i
+-- an event that occurs with this payload, or doesn't occur
+abbrev pub occurs : Option Value → Seen
+occurs o = Ok (Occ o)
+
+-- an event's state, or why there is none
+abbrev pub event_of : Seen → Result (Option Value) Bad
+event_of (Err b) = Err b
+event_of (Ok (Plain v)) = Err NotEvent
+event_of (Ok (Occ o)) = Ok o
+
+-- a plain value, or why there is none
+abbrev pub datum_in : Seen → Result Value Bad
+datum_in (Err b) = Err b
+datum_in (Ok (Plain v)) = Ok v
+datum_in (Ok (Occ o)) = Err NotData
+
+-- whether a test holds, or why that can't be told
+abbrev pub test_of : Seen → Result Bool Bad
+test_of (Err b) = Err b
+test_of (Ok (Plain v)) = Ok (is_true v)
+test_of (Ok (Occ o)) = Err WrongType

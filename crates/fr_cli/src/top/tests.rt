@@ -14,7 +14,7 @@ struct Case {
 
 const SUM: &str = "(define-input x 1)(show y (+ x 1))";
 
-const CASES: [Case; 14] = [
+const CASES: [Case; 16] = [
     Case {
         program: SUM,
         script: "5 x 4",
@@ -90,7 +90,21 @@ const CASES: [Case; 14] = [
         script: "",
         out: "",
         status: 2,
+        line: "program refused at form 1: unbound\n",
+    },
+    Case {
+        program: "(show y (* 2 3))",
+        script: "",
+        out: "",
+        status: 2,
         line: "program refused at form 0: unbuilt\n",
+    },
+    Case {
+        program: "(define-event e)(show w (map-e (lambda (v) (hold e v)) e))",
+        script: "",
+        out: "",
+        status: 2,
+        line: "program refused at form 2: handler\n",
     },
     Case {
         program: "(show a 1) (show b",
@@ -180,7 +194,7 @@ fn programs_print_what_changes_up_to_their_stop(rt: HostRuntime) -> Result<(), F
 }
 
 /// Words that are no command.
-const NO_COMMANDS: [&[&str]; 7] = [
+const NO_COMMANDS: [&[&str]; 10] = [
     &[],
     &["run", "p"],
     &["run", "p", "s", "t"],
@@ -188,6 +202,9 @@ const NO_COMMANDS: [&[&str]; 7] = [
     &["run", "-p", "s"],
     &["run", "p", "-"],
     &["run", "--", "p"],
+    &["check"],
+    &["check", "p", "--unlowered"],
+    &["check", "-p"],
 ];
 
 #[test]

@@ -1,5 +1,5 @@
 use super::{Engine, EngineStop};
-use fr_meaning::{Core, Input, Inputs, Program, Set, Show};
+use fr_sums::{Core, Input, Inputs, Program, Set, Show};
 use fr_value::Name;
 use sqlite_items::Items;
 use std::alloc::{AllocError, Global};

@@ -1,5 +1,5 @@
 use super::read_script;
-use fr_meaning::{Input, Inputs, Program};
+use fr_sums::{Input, Inputs, Program};
 use fr_value::Name;
 use sqlite_items::Items;
 use std::alloc::{AllocError, Global};

@@ -1,6 +1,6 @@
 use Rattle.std.proofs.Common.{ap, Err, ◌∙◌, List, arith, rules, subst}
 use Rattle.std.proofs.lemmas.List.{drop_all}
-use Rattle.fr_meaning.specs.declared.inputs.Inputs.{Inputs}
+use Rattle.fr_sums.specs.declared.inputs.Inputs.{Inputs}
 use Rattle.fr_cli.proofs.Courses.{SoFar, none_done, one_done, stops_here, next_item, all_done}
 use Rattle.fr_cli.proofs.session.run_all.Goals as goal
 

@@ -1,5 +1,5 @@
 use Rattle.std.proofs.Common.{◌≡◌, ◌≤◌, drop}
-use Rattle.fr_meaning.specs.declared.kept.Kept.{Kept}
+use Rattle.fr_sums.specs.declared.kept.Kept.{Kept}
 use Rattle.fr_cli.proofs.Courses.{SoFar}
 use Rattle.fr_cli.proofs.session.run_all.Given as goal
 

@@ -1,9 +1,9 @@
 use Rattle.std.proofs.Common.{◌∙◌, ap, sym, List, ℕ, None, Some}
-use Rattle.fr_meaning.specs.declared.program.Program.{Program}
-use Rattle.fr_meaning.specs.declared.stop.Stop.TheVariants.{Script}
-use Rattle.fr_meaning.specs.declared.stop.LineKind.TheVariants as line_kind
-use Rattle.fr_meaning.specs.Course.{Course}
-use Rattle.fr_meaning.specs.Script.{script_of}
+use Rattle.fr_sums.specs.declared.program.Program.{Program}
+use Rattle.fr_show.specs.declared.stop.Stop.TheVariants.{Script}
+use Rattle.fr_show.specs.declared.stop.LineKind.TheVariants as line_kind
+use Rattle.fr_show.specs.Course.{Course}
+use Rattle.fr_sums.specs.Script.{script_of}
 use Rattle.fr_engine.specs.Running.{state_of}
 use Rattle.fr_cli.specs.Ends.{EndsThere, StopSays}
 use Rattle.fr_cli.proofs.Sessions.{as_read, of_script, refused_whole, ends_done, read_whole}

@@ -1,5 +1,5 @@
 use Rattle.std.proofs.Common.{◌≡◌, drop}
-use Rattle.fr_meaning.specs.Afresh.{set_all}
+use Rattle.fr_sums.specs.Afresh.{set_all}
 use Rattle.fr_engine.proofs.engine.set_inputs.Given as goal
 
 abbrev pub invariant-loop-set : goal.invariant-loop-set

@@ -1,7 +1,7 @@
 use Rattle.std.proofs.Common.{ap, sym, ◌∙◌, refl, arith}
 use Rattle.std.proofs.lemmas.Int.{to_z-of_z}
-use Rattle.fr_meaning.specs.declared.program.Core.{out-Core}
-use Rattle.fr_meaning.proofs.Levels.{opens-Lit, opens-Input, opens-Add}
+use Rattle.fr_sums.specs.declared.program.Core.{out-Core}
+use Rattle.fr_sums.proofs.Levels.{opens-Lit, opens-Input, opens-Add}
 use Rattle.fr_engine.proofs.Evaluated.{number_at_zero, number_at_level}
 use Rattle.fr_engine.proofs.Grown.{Grows-same, makes_last, sum_of_parts}
 use Rattle.fr_engine.proofs.making.+build.Goals as goal

@@ -1,5 +1,5 @@
 use Rattle.std.proofs.Common.{sym, ◌∙◌, map}
-use Rattle.fr_meaning.specs.Forms.{expr_to}
+use Rattle.fr_sums.specs.Forms.{expr_to}
 use Rattle.fr_first.proofs.Openings.{expr_none, expr_level, next_part, no_part}
 use Rattle.fr_first.proofs.acceptance.+expr.Goals as goal
 

@@ -1,6 +1,6 @@
 use Rattle.std.proofs.Common.{◌≡◌, ◌++◌, ◌+◌, ◌*◌, map, drop}
 use Rattle.std.specs.Option.{option_map}
-use Rattle.fr_meaning.specs.Forms.{each_expr, expr_to}
+use Rattle.fr_sums.specs.Forms.{each_expr, expr_to}
 use Rattle.fr_first.proofs.acceptance.+expr.Given as goal
 
 abbrev pub decreases-expr : goal.decreases-expr

@@ -1,5 +1,5 @@
 use Rattle.std.proofs.Common.{◌≡◌, map, drop}
-use Rattle.fr_meaning.specs.Forms.{all_free}
+use Rattle.fr_sums.specs.Forms.{all_free}
 use Rattle.fr_first.proofs.acceptance.all_free.Given as goal
 
 abbrev pub invariant-loop-input : goal.invariant-loop-input

@@ -1,6 +1,6 @@
 use Rattle.std.proofs.Common.{◌∙◌, sym, ap, arith, None, Some}
 use Rattle.std.proofs.lemmas.Int.{to_z-of_z}
-use Rattle.fr_meaning.specs.Forms.{input_with}
+use Rattle.fr_sums.specs.Forms.{input_with}
 use Rattle.fr_first.proofs.Openings.{by_input, no_integer}
 use Rattle.fr_first.proofs.acceptance.input_parts.Goals as goal
 

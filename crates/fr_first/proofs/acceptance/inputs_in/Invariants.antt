@@ -1,6 +1,6 @@
 use Rattle.std.proofs.Common.{◌≡◌, ◌++◌, drop}
 use Rattle.fr_value.specs.Data.{data_of}
-use Rattle.fr_meaning.specs.Forms.{inputs_in}
+use Rattle.fr_sums.specs.Forms.{inputs_in}
 use Rattle.fr_first.proofs.acceptance.inputs_in.Given as goal
 
 abbrev pub invariant-loop-form : goal.invariant-loop-form

@@ -1,5 +1,5 @@
 use Rattle.std.proofs.Common.{◌∙◌, sym, ap, map, None, Some}
-use Rattle.fr_meaning.specs.Forms.{show_with}
+use Rattle.fr_sums.specs.Forms.{show_with}
 use Rattle.fr_first.proofs.Openings.{by_show}
 use Rattle.fr_first.proofs.acceptance.show_of.Goals as goal
 

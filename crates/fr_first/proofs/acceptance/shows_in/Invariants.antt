@@ -1,6 +1,6 @@
 use Rattle.std.proofs.Common.{◌≡◌, ◌++◌, map, drop}
 use Rattle.fr_value.specs.Data.{data_of}
-use Rattle.fr_meaning.specs.Forms.{shows_in, are_forms}
+use Rattle.fr_sums.specs.Forms.{shows_in, are_forms}
 use Rattle.fr_first.proofs.acceptance.shows_in.Given as goal
 
 abbrev pub invariant-loop-form : goal.invariant-loop-form

@@ -1,5 +1,5 @@
 use Rattle.std.proofs.Common.{◌≡◌, drop}
-use Rattle.fr_meaning.specs.Script.{all_digits}
+use Rattle.fr_sums.specs.Script.{all_digits}
 use Rattle.fr_first.proofs.lines.all_digits.Given as goal
 
 abbrev pub invariant-loop-b : goal.invariant-loop-b

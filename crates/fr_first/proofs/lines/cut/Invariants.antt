@@ -1,6 +1,6 @@
 use Rattle.std.proofs.Common.{◌≡◌, take, drop}
 use Rattle.std.specs.Option.{option_map}
-use Rattle.fr_meaning.specs.Script.{cut}
+use Rattle.fr_sums.specs.Script.{cut}
 use Rattle.fr_first.proofs.Cuts.{behind}
 use Rattle.fr_first.proofs.lines.cut.Given as goal
 

@@ -1,5 +1,5 @@
 use Rattle.std.proofs.Common.{map}
-use Rattle.fr_meaning.specs.Script.{lines, each_line}
+use Rattle.fr_sums.specs.Script.{lines, each_line}
 use Rattle.fr_first.proofs.Cuts.{line_more}
 use Rattle.fr_first.proofs.lines.each_line.Goals as goal
 

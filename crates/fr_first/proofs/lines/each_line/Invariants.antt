@@ -1,6 +1,6 @@
 use Rattle.std.proofs.Common.{◌≡◌, ◌++◌, length, map}
 use Rattle.std.specs.Option.{option_map}
-use Rattle.fr_meaning.specs.Script.{lines, each_line}
+use Rattle.fr_sums.specs.Script.{lines, each_line}
 use Rattle.fr_first.proofs.lines.each_line.Given as goal
 
 abbrev pub invariant-loop-rest : goal.invariant-loop-rest

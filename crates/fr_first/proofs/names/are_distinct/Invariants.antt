@@ -1,5 +1,5 @@
 use Rattle.std.proofs.Common.{◌≡◌, true, map, take}
-use Rattle.fr_meaning.specs.Names.{are_distinct}
+use Rattle.fr_sums.specs.Names.{are_distinct}
 use Rattle.fr_first.proofs.Distinct.{Seen}
 use Rattle.fr_first.proofs.names.are_distinct.Given as goal
 

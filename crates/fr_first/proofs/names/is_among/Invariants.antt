@@ -1,5 +1,5 @@
 use Rattle.std.proofs.Common.{◌≡◌, map, drop}
-use Rattle.fr_meaning.specs.Names.{is_among}
+use Rattle.fr_sums.specs.Names.{is_among}
 use Rattle.fr_first.proofs.names.is_among.Given as goal
 
 abbrev pub invariant-loop-n : goal.invariant-loop-n

@@ -1,6 +1,6 @@
 use Rattle.std.proofs.Common.{◌≡◌, ◌+◌, map, drop}
 use Rattle.std.specs.Option.{option_map}
-use Rattle.fr_meaning.specs.Names.{place_of}
+use Rattle.fr_sums.specs.Names.{place_of}
 use Rattle.fr_first.proofs.names.place_of.Given as goal
 
 abbrev pub invariant-loop-at : goal.invariant-loop-at

@@ -1,5 +1,5 @@
 use Rattle.std.proofs.Common.{◌≡◌, drop}
-use Rattle.fr_meaning.specs.Script.{each_sets_once}
+use Rattle.fr_sums.specs.Script.{each_sets_once}
 use Rattle.fr_first.proofs.script.each_sets_once.Given as goal
 
 abbrev pub invariant-loop-instant : goal.invariant-loop-instant

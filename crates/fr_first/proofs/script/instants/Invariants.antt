@@ -1,5 +1,5 @@
 use Rattle.std.proofs.Common.{◌≡◌, take}
-use Rattle.fr_meaning.specs.Script.{instants}
+use Rattle.fr_sums.specs.Script.{instants}
 use Rattle.fr_first.proofs.script.instants.Given as goal
 
 abbrev pub invariant-loop-line : goal.invariant-loop-line

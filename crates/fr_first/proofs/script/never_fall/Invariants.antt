@@ -1,5 +1,5 @@
 use Rattle.std.proofs.Common.{◌≡◌, drop}
-use Rattle.fr_meaning.specs.Script.{never_fall}
+use Rattle.fr_sums.specs.Script.{never_fall}
 use Rattle.fr_first.proofs.script.never_fall.Given as goal
 
 abbrev pub invariant-loop-line : goal.invariant-loop-line

@@ -1,5 +1,5 @@
 use Rattle.std.proofs.Common.{◌≡◌, drop}
-use Rattle.fr_meaning.specs.Script.{sets_input}
+use Rattle.fr_sums.specs.Script.{sets_input}
 use Rattle.fr_first.proofs.script.sets_input.Given as goal
 
 abbrev pub invariant-loop-set : goal.invariant-loop-set

@@ -1,5 +1,5 @@
 use Rattle.std.proofs.Common.{◌≡◌, length}
-use Rattle.fr_meaning.specs.Script.{sets_once}
+use Rattle.fr_sums.specs.Script.{sets_once}
 use Rattle.fr_first.proofs.script.sets_once.Given as goal
 
 abbrev pub invariant-loop-set : goal.invariant-loop-set

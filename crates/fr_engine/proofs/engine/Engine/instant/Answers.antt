@@ -1,5 +1,5 @@
 use Rattle.std.proofs.Common.{◌≡◌, [], refl, sym, ◌∙◌}
-use Rattle.fr_meaning.specs.Afresh.{set_all}
+use Rattle.fr_sums.specs.Afresh.{set_all}
 use Rattle.fr_engine.specs.Nodes.{computed}
 use Rattle.fr_engine.proofs.Instants.{errs_at, goes_at}
 use Rattle.fr_engine.proofs.Roots.{root_number-next}

@@ -5,7 +5,7 @@ use Rattle.fr_value.specs.declared.now.Now.TheVariants.{Plain}
 use Rattle.fr_value.specs.declared.now.Bad.{Bad}
 use Rattle.fr_value.specs.declared.now.Bad.TheVariants.{WrongType, Range}
 use Rattle.fr_value.specs.declared.value.Value.TheVariants as value
-use Rattle.fr_meaning.specs.Words.{Seen, int_seen}
+use Rattle.fr_sums.specs.Words.{Seen, int_seen}
 
 -- whether a number lies in the signed 64-bit range
 abbrev pub fits : ℤ → Bool

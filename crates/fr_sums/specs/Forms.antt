@@ -6,12 +6,12 @@ use Rattle.fr_value.specs.Data.{value_of}
 use Rattle.fr_value.specs.declared.value.Datum.{Datum}
 use Rattle.fr_value.specs.declared.value.Value.{Value}
 use Rattle.fr_value.specs.declared.value.Value.TheVariants as value
-use Rattle.fr_meaning.specs.declared.program.Core.{Core}
-use Rattle.fr_meaning.specs.declared.program.Core.TheVariants as core
-use Rattle.fr_meaning.specs.declared.program.Input.{Input}
-use Rattle.fr_meaning.specs.declared.program.Show.{Show}
-use Rattle.fr_meaning.specs.declared.program.Program.{Program}
-use Rattle.fr_meaning.specs.Names.{place_of, are_distinct, is_free}
+use Rattle.fr_sums.specs.declared.program.Core.{Core}
+use Rattle.fr_sums.specs.declared.program.Core.TheVariants as core
+use Rattle.fr_sums.specs.declared.program.Input.{Input}
+use Rattle.fr_sums.specs.declared.program.Show.{Show}
+use Rattle.fr_sums.specs.declared.program.Program.{Program}
+use Rattle.fr_sums.specs.Names.{place_of, are_distinct, is_free}
 
 abbrev pub is_symbol_at : List ℕ → Value → Bool
 is_symbol_at name (value.Sym s) = bytes_eq s name

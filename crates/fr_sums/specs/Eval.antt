@@ -2,12 +2,12 @@
 use Rattle.std.specs.Prelude.{ℕ, ℤ, ◌+◌, ◌-◌, zero, suc, List, [], ◌∷◌, slice_get, Option, Some, None, Err}
 use Rattle.std.specs.Option.{option_or}
 use Rattle.fr_value.specs.declared.now.Bad.TheVariants.{Deep, WrongType}
-use Rattle.fr_meaning.specs.declared.program.Core.{Core, out-Core}
-use Rattle.fr_meaning.specs.declared.program.Core.TheOpen.{Core-F}
-use Rattle.fr_meaning.specs.declared.kept.Kept.{Kept}
-use Rattle.fr_meaning.specs.declared.kept.Kept.TheVariants as kept
-use Rattle.fr_meaning.specs.Words.{Seen, First, Done, int_seen, under, own, child}
-use Rattle.fr_meaning.specs.Prims.{add}
+use Rattle.fr_sums.specs.declared.program.Core.{Core, out-Core}
+use Rattle.fr_sums.specs.declared.program.Core.TheOpen.{Core-F}
+use Rattle.fr_sums.specs.declared.kept.Kept.{Kept}
+use Rattle.fr_sums.specs.declared.kept.Kept.TheVariants as kept
+use Rattle.fr_sums.specs.Words.{Seen, First, Done, int_seen, under, own, child}
+use Rattle.fr_sums.specs.Prims.{add}
 
 -- what is the same for every part of a program at an instant: the values of the inputs
 pub record World : Type 0 where

@@ -7,7 +7,19 @@ pub enum ProgramKind {
     Length,
     /// The text doesn't read as data from this form on.
     Text,
-    /// The text reads, but isn't of the form that can be run today. The form is 0.
+    /// The form, or an expression in it, has the shape of no form of the language.
+    Form,
+    /// A name stands where what it means may not, or is bound or defined though it is reserved.
+    Name,
+    /// A name means nothing.
+    Unbound,
+    /// A name is defined, shown or bound twice.
+    Twice,
+    /// The body of a handler or a loop isn't pure.
+    Handler,
+    /// An expression nests above 500.
+    Nesting,
+    /// The program is accepted, but `run` can't run it today. The form is 0.
     Unbuilt,
 }
 

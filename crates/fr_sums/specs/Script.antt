@@ -2,12 +2,12 @@
 use Rattle.std.specs.Prelude.{ℕ, ℤ, ◌^◌, ◌==◌, ◌&&◌, nat_le, nat_lt, not, Bool, true, false, if◌then◌else◌, List, [], ◌∷◌, length, Option, Some, None}
 use Rattle.std.specs.Option.{option_map, option_and_then}
 use Rattle.std.specs.Str.Parse.{digits_value, without_leading_sign, signed_digits_value}
-use Rattle.fr_meaning.specs.declared.program.Program.{Program}
-use Rattle.fr_meaning.specs.declared.inputs.Inputs.{Inputs}
-use Rattle.fr_meaning.specs.declared.inputs.Line.{Line}
-use Rattle.fr_meaning.specs.declared.inputs.Set.{Set}
-use Rattle.fr_meaning.specs.Prims.{fits}
-use Rattle.fr_meaning.specs.Names.{place_of, input_names}
+use Rattle.fr_sums.specs.declared.program.Program.{Program}
+use Rattle.fr_sums.specs.declared.inputs.Inputs.{Inputs}
+use Rattle.fr_sums.specs.declared.inputs.Line.{Line}
+use Rattle.fr_sums.specs.declared.inputs.Set.{Set}
+use Rattle.fr_sums.specs.Prims.{fits}
+use Rattle.fr_sums.specs.Names.{place_of, input_names}
 
 -- a byte before what the first line holds
 abbrev pub before_lines : ℕ → List (List ℕ) → List (List ℕ)

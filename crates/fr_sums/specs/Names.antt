@@ -2,7 +2,7 @@
 use Rattle.std.specs.Prelude.{ℕ, suc, ◌&&◌, ◌||◌, not, Bool, true, false, if◌then◌else◌, List, [], ◌∷◌, map, Option, Some, None, codes}
 use Rattle.std.specs.Option.{option_map}
 use Rattle.std.specs.Str.{bytes_eq}
-use Rattle.fr_meaning.specs.declared.program.Program.{Program}
+use Rattle.fr_sums.specs.declared.program.Program.{Program}
 
 -- the place of a name among these, counted from 0
 abbrev pub place_of : List ℕ → List (List ℕ) → Option ℕ

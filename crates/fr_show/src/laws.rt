@@ -1,5 +1,5 @@
 ghost use Rattle.std.specs.Prelude.{◌≡◌, ℕ, List, take};
-ghost use Rattle.fr_meaning.specs.Accepted.{Verdict, IsVerdict};
+ghost use Rattle.fr_show.specs.Accepted.{Verdict, IsVerdict};
 
 /// A text is judged in one way only: as one program, or as refused at one form with one kind.
 #[tactic(auto, using(crate::proofs::Verdicts::verdict_is_one))]

@@ -1,0 +1,10 @@
+//! Which texts are accepted as programs, and how the run of one may end.
+#![tactic(auto)]
+
+mod acceptance;
+mod laws;
+mod stop;
+
+pub use acceptance::{AcceptStop, PROGRAM_LIMIT, accept, program_of, read_forms};
+pub use laws::{front_decides, verdict_is_one};
+pub use stop::{LineKind, ProgramKind, Stop};
