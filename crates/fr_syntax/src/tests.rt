@@ -329,25 +329,3 @@ fn twenty_eight_names_are_keywords(rt: HostRuntime) -> Result<(), Fail> {
     assert_eq!(rt; keyword_named("every"), Some(Keyword::Every));
     Ok(())
 }
-
-/// A show of that many calls in one another.
-fn nested(alloc: Global, calls: usize) -> Result<String, AllocError> {
-    let mut text = String::from_str(alloc, "(show s ")?;
-    for _ in 0..calls {
-        text.push_str("(f ")?;
-    }
-    text.push('1')?;
-    for _ in 0..calls {
-        text.push(')')?;
-    }
-    text.push(')')?;
-    Ok(text)
-}
-
-#[test]
-fn expressions_nest_as_deep_as_data(rt: HostRuntime) -> Result<(), Fail> {
-    let deepest = nested(rt.alloc(), 63)?;
-    let value = read(rt.alloc(), deepest.as_str())?;
-    assert!(rt; form_of(rt.alloc(), &value)?.is_some());
-    Ok(())
-}
