@@ -1,5 +1,5 @@
 -- Worked examples, computed from the definitions.
-use Rattle.std.proofs.Common.{◌≡◌, ◌∙◌, ℕ, suc, ℤ, pos, negsuc, List, [], ◌∷◌, Option, Some, None, Ok, Err, true, false, refl, ap, codes}
+use Rattle.std.proofs.Common.{◌≡◌, ℕ, suc, ℤ, pos, negsuc, [], ◌∷◌, Some, None, true, false}
 use Rattle.fr_value.specs.declared.value.Value.TheVariants as value
 use Rattle.fr_value.specs.declared.now.Now.TheVariants.{Plain, Occ}
 use Rattle.fr_value.specs.declared.now.Bad.TheVariants as bad
@@ -7,14 +7,13 @@ use Rattle.fr_value.specs.declared.primitive.Primitive.TheVariants as prim
 use Rattle.fr_core.specs.declared.core_form.Core.{Core}
 use Rattle.fr_core.specs.declared.core_form.Core.TheVariants as core
 use Rattle.fr_core.specs.declared.kept.Key.TheVariants as key
-use Rattle.fr_core.specs.declared.kept.Kept.{Kept}
 use Rattle.fr_core.specs.declared.kept.Kept.TheVariants as kept
-use Rattle.fr_meaning.specs.Words.{Done, plain, occurs}
+use Rattle.fr_meaning.specs.Words.{plain}
 use Rattle.fr_meaning.specs.Primitives.{applied}
-use Rattle.fr_meaning.specs.Cells.{child, datum_cell, payload_cell, behind_datum, behind_payload, under_key}
+use Rattle.fr_meaning.specs.Cells.{child, datum_cell, behind_datum, under_key}
 use Rattle.fr_meaning.specs.Evaluation.{World, eval_to}
-use Rattle.fr_meaning.proofs.Levels.{eval-Lit, eval-Var, eval-Source, eval-If, eval-PrimApp, eval-Hold, eval-CollectB, eval-Changes, eval-Delay, eval-DelayE, eval-Feedback, eval-Repeat}
-use Rattle.fr_meaning.proofs.Trees.{opens-Nothing, opens-Group, opens-Datum, opens-Payload, opens-Switch}
+use Rattle.fr_meaning.proofs.Levels.{eval-Lit, eval-Var, eval-Source, eval-If, eval-PrimApp, eval-CollectB, eval-Delay, eval-Feedback, eval-Repeat}
+use Rattle.fr_meaning.proofs.Trees.{opens-Nothing, opens-Group, opens-Datum, opens-Switch}
 
 -- source 1 is an input of value 1, or an event
 abbrev with_input : World

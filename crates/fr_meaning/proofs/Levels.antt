@@ -10,7 +10,7 @@ use Rattle.fr_core.specs.declared.core_form.Core.TheOpen.{Core-F}
 use Rattle.fr_core.specs.declared.core_form.Core.TheVariants as core
 use Rattle.fr_core.specs.declared.core_form.Core.TheVariants.{rolls-Lit, rolls-Var, rolls-Source, rolls-Let, rolls-If, rolls-Apply, rolls-PrimApp, rolls-Fold, rolls-Repeat, rolls-MapE, rolls-FilterE, rolls-MergeE, rolls-Hold, rolls-CollectB, rolls-CollectE, rolls-Changes, rolls-OnceE, rolls-Delay, rolls-DelayE, rolls-Feedback}
 use Rattle.fr_core.specs.declared.kept.Kept.{Kept}
-use Rattle.fr_meaning.specs.Words.{Env, Done}
+use Rattle.fr_meaning.specs.Words.{Env}
 use Rattle.fr_meaning.specs.Evaluation.{World, eval_to, layer, deep}
 
 -- an evaluation of what opens to this layer

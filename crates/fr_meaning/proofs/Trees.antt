@@ -1,12 +1,11 @@
 -- Kept trees, opened.
-use Rattle.std.proofs.Common.{◌≡◌, ℕ, List, Option, Some, None, refl, ap, sym, ◌∙◌, slice_get, unwrap_or}
+use Rattle.std.proofs.Common.{◌≡◌, List, Option, ap, sym, ◌∙◌}
 use Rattle.fr_value.specs.declared.value.Value.{Value}
 use Rattle.fr_core.specs.declared.kept.Key.{Key}
-use Rattle.fr_core.specs.declared.kept.Kept.{Kept, out-Kept, roll-Kept, out-roll-Kept, roll-out-Kept}
+use Rattle.fr_core.specs.declared.kept.Kept.{Kept, out-Kept, out-roll-Kept}
 use Rattle.fr_core.specs.declared.kept.Kept.TheOpen.{Kept-F}
 use Rattle.fr_core.specs.declared.kept.Kept.TheVariants as kept
 use Rattle.fr_core.specs.declared.kept.Kept.TheVariants.{rolls-Nothing, rolls-Group, rolls-Datum, rolls-Payload, rolls-Switch}
-use Rattle.fr_meaning.specs.Cells.{child, child_at, datum_cell, datum_cell_at, payload_cell, payload_cell_at, behind_datum, behind_datum_at, behind_payload, behind_payload_at, under_key, under_key_at, same_key}
 
 pub opens-Nothing : out-Kept kept.Nothing ≡ Kept-F.Nothing
 opens-Nothing = ap out-Kept (sym rolls-Nothing) ∙ out-roll-Kept Kept-F.Nothing

@@ -1,5 +1,5 @@
 -- Evaluation afresh: at every instant the whole program is evaluated over its inputs and what was kept.
-use Rattle.std.specs.Prelude.{ℕ, ◌+◌, ◌==◌, zero, suc, pos, if◌then◌else◌, List, [], ◌∷◌, ◌++◌, length, map, Option, Some, None, unwrap_or}
+use Rattle.std.specs.Prelude.{ℕ, ◌+◌, ◌==◌, zero, suc, pos, if◌then◌else◌, List, [], ◌∷◌, ◌++◌, map, Option, Some, None, unwrap_or}
 use Rattle.std.specs.Option.{option_or}
 use Rattle.fr_value.specs.declared.value.Value.{Value}
 use Rattle.fr_value.specs.declared.value.Value.TheVariants as value
@@ -17,7 +17,7 @@ use Rattle.fr_core.specs.declared.program.Item.TheVariants as item
 use Rattle.fr_core.specs.declared.program.Program.{Program}
 use Rattle.fr_meaning.specs.Words.{Seen, Env, First, Done, under}
 use Rattle.fr_meaning.specs.Cells.{child}
-use Rattle.fr_meaning.specs.Evaluation.{World, Ev, eval}
+use Rattle.fr_meaning.specs.Evaluation.{Ev, eval}
 
 -- the values of the inputs, where each that is set has its new one
 abbrev pub latest : List Input → List Value → List Entry → List Value

@@ -1,5 +1,5 @@
 -- Kept trees, by what a form reads from them: where a tree doesn't have the shape that is wanted, nothing was kept.
-use Rattle.std.specs.Prelude.{ℕ, List, Bool, true, false, if◌then◌else◌, slice_get, unwrap_or, Option, Some, None}
+use Rattle.std.specs.Prelude.{ℕ, Bool, true, false, if◌then◌else◌, slice_get, unwrap_or, Option, Some, None}
 use Rattle.fr_value.specs.declared.value.Value.{Value}
 use Rattle.fr_core.specs.declared.kept.Key.{Key}
 use Rattle.fr_core.specs.declared.kept.Key.TheVariants as key

@@ -5,7 +5,7 @@ use Rattle.fr_value.specs.Data.{value_of}
 use Rattle.fr_value.specs.declared.value.Datum.{Datum}
 use Rattle.fr_value.specs.declared.value.Value.TheVariants as value
 use Rattle.fr_value.specs.declared.now.Now.{Now}
-use Rattle.fr_value.specs.declared.now.Now.TheVariants.{Plain, Occ}
+use Rattle.fr_value.specs.declared.now.Now.TheVariants.{Plain}
 use Rattle.fr_value.specs.declared.now.Bad.{Bad}
 use Rattle.fr_value.specs.declared.now.Bad.TheVariants.{WrongType, Range, Arity, Deep}
 use Rattle.fr_core.specs.declared.core_form.Core.{Core, out-Core}
@@ -17,7 +17,7 @@ use Rattle.fr_core.specs.declared.program.Function.{Function}
 use Rattle.fr_meaning.specs.Words.{Seen, Env, First, Done, under, own, plain, test_of}
 use Rattle.fr_meaning.specs.Primitives.{applied}
 use Rattle.fr_meaning.specs.Cells.{child, datum_cell, payload_cell, behind_datum, behind_payload, under_key, with_cell}
-use Rattle.fr_meaning.specs.States.{Line, Called, Call, map_e, filter_e, merge_e, hold, collect_b, collect_e, changes, once_e, delay, delay_e, fed, feedback}
+use Rattle.fr_meaning.specs.States.{Line, Call, map_e, filter_e, merge_e, hold, collect_b, collect_e, changes, once_e, delay, delay_e, fed, feedback}
 
 -- what is the same for every part at an instant: the program's functions and the values of its sources
 pub record World : Type 0 where

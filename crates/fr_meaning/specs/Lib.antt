@@ -5,3 +5,7 @@ pub mod States
 pub mod Evaluation
 pub mod Texts
 pub mod Afresh
+pub mod Agreement
+pub mod Places
+pub mod Dependence
+pub mod Order

@@ -1,7 +1,7 @@
 -- Primitives applied to what arguments have at an instant.
-use Rattle.std.specs.Prelude.{List, [], ◌∷◌, Option, Some, None, Result, Ok, Err}
+use Rattle.std.specs.Prelude.{List, [], ◌∷◌, Option, Some, None, Ok, Err}
 use Rattle.std.specs.Option.{option_map, option_and_then}
-use Rattle.fr_value.specs.declared.now.Now.TheVariants.{Plain, Occ}
+use Rattle.fr_value.specs.declared.now.Now.TheVariants.{Plain}
 use Rattle.fr_value.specs.declared.now.Bad.{Bad}
 use Rattle.fr_value.specs.declared.now.Bad.TheVariants.{WrongType}
 use Rattle.fr_value.specs.declared.value.Value.{Value}

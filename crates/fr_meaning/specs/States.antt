@@ -3,9 +3,8 @@ use Rattle.std.specs.Prelude.{ℕ, Bool, true, false, if◌then◌else◌, List,
 use Rattle.std.specs.Option.{option_or}
 use Rattle.fr_value.specs.declared.value.Value.{Value}
 use Rattle.fr_value.specs.declared.value.Value.TheVariants as value
-use Rattle.fr_value.specs.declared.now.Now.TheVariants.{Plain, Occ}
+use Rattle.fr_value.specs.declared.now.Now.TheVariants.{Plain}
 use Rattle.fr_value.specs.declared.now.Bad.{Bad}
-use Rattle.fr_value.specs.declared.now.Bad.TheVariants.{NotEvent}
 use Rattle.fr_value.specs.Same.{is_same}
 use Rattle.fr_meaning.specs.Words.{Seen, First, plain, occurs, event_of, datum_in, test_of}
 use Rattle.fr_meaning.specs.Cells.{Cell, datum, payload}

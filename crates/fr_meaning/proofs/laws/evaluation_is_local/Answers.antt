@@ -1,0 +1,12 @@
+use Rattle.fr_meaning.proofs.Locality.{named_variables_decide}
+use Rattle.fr_meaning.proofs.Prefixes.{parts_split, items_split}
+use Rattle.fr_meaning.proofs.laws.evaluation_is_local.Goals as goal
+
+pub returns-clause-variables : goal.returns-clause-variables
+returns-clause-variables c = named_variables_decide
+
+pub returns-clause-parts : goal.returns-clause-parts
+returns-clause-parts c = parts_split
+
+pub returns-clause-items : goal.returns-clause-items
+returns-clause-items c = items_split

@@ -1,0 +1,63 @@
+-- What an evaluation depends on: the variables that an expression names, and the values that earlier items bind.
+use Rattle.std.specs.Prelude.{ℕ, ◌+◌, ◌≡◌, List, [], ◌∷◌, ◌++◌, slice_get}
+use Rattle.std.specs.Option.{option_or}
+use Rattle.fr_core.specs.declared.core_form.Core.{Core, fold-Core}
+use Rattle.fr_core.specs.declared.core_form.Core.TheOpen.{Core-F}
+use Rattle.fr_core.specs.declared.kept.Kept.{Kept}
+use Rattle.fr_core.specs.declared.program.Item.{Item}
+use Rattle.fr_core.specs.declared.program.Item.TheVariants as item
+use Rattle.fr_meaning.specs.Words.{Seen, Env}
+use Rattle.fr_meaning.specs.Cells.{child}
+use Rattle.fr_meaning.specs.Evaluation.{Ev, Parts}
+use Rattle.fr_meaning.specs.Afresh.{Evaluated}
+
+-- lists one after the other
+abbrev pub joined : List (List ℕ) → List ℕ
+joined [] = []
+joined (ns ∷ rest) = ns ++ joined rest
+
+-- the variables that an expression names, from those that its parts name
+abbrev pub variables_step : Core-F (List ℕ) → List ℕ
+variables_step (Core-F.Lit v) = []
+variables_step (Core-F.Var x) = x.0 ∷ []
+variables_step (Core-F.Source s) = []
+variables_step (Core-F.Let es b) = joined es ++ b
+variables_step (Core-F.If a b c) = a ++ b ++ c
+variables_step (Core-F.Apply f es) = joined es
+variables_step (Core-F.PrimApp p es) = joined es
+variables_step (Core-F.Fold a b c) = a ++ b ++ c
+variables_step (Core-F.Repeat a b c) = a ++ b ++ c
+variables_step (Core-F.MapE a b) = a ++ b
+variables_step (Core-F.FilterE a b) = a ++ b
+variables_step (Core-F.MergeE es) = joined es
+variables_step (Core-F.Hold a b) = a ++ b
+variables_step (Core-F.CollectB a b c) = a ++ b ++ c
+variables_step (Core-F.CollectE a b c) = a ++ b ++ c
+variables_step (Core-F.Changes a) = a
+variables_step (Core-F.OnceE a) = a
+variables_step (Core-F.Delay a b) = a ++ b
+variables_step (Core-F.DelayE a) = a
+variables_step (Core-F.Feedback a b) = a ++ b
+
+-- the variables that an expression names, those of its handlers and loops and those that it binds itself included
+unfoldable pub variables : Core → List ℕ
+variables = fold-Core (List ℕ) variables_step
+
+-- each of these variables has the same value in both environments, or none in either
+abbrev pub AgreeAt : List ℕ → Env → Env → Type 0
+AgreeAt [] env other = Unit {0}
+AgreeAt (x ∷ xs) env other = (slice_get env x ≡ slice_get other x) × AgreeAt xs env other
+
+-- parts that were evaluated, and then others
+abbrev pub parts_followed : Parts → Parts → Parts
+parts_followed a b = record { values = a.values ++ b.values; kepts = a.kepts ++ b.kepts; cost = a.cost + b.cost; first = option_or a.first b.first }
+
+-- the values that items bind
+abbrev pub bound : Ev → Env → Kept → ℕ → List Item → List Seen
+bound ev env k i [] = []
+bound ev env k i (item.Define e ∷ is) = let v = (ev e env (child k i)).value in v ∷ bound ev (env ++ v ∷ []) k (i + 1) is
+bound ev env k i (item.Show name e ∷ is) = bound ev env k (i + 1) is
+
+-- items that were evaluated, and then others
+abbrev pub followed : Evaluated → Evaluated → Evaluated
+followed a b = record { shown = a.shown ++ b.shown; kepts = a.kepts ++ b.kepts; cost = a.cost + b.cost; first = option_or a.first b.first }
