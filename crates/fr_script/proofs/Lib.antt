@@ -12,4 +12,5 @@ mod Tells
 mod Wholes
 mod Goes
 mod Turns
+pub mod Limits
 mod Examples

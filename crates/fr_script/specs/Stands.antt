@@ -1,5 +1,5 @@
 -- Where a script reader stands: which bytes were fed to it, whether it was told the end, and how many instants it gave.
-use Rattle.std.specs.Prelude.{ℕ, ◌+◌, ◌≡◌, Bool, true, false, List, [], ◌∷◌, ◌++◌, length, drop, slice_get, Option, Some, None}
+use Rattle.std.specs.Prelude.{ℕ, ◌+◌, ◌≡◌, ◌<◌, ◌≤◌, Bool, true, false, List, [], ◌∷◌, ◌++◌, length, drop, slice_get, Option, Some, None}
 use Rattle.indexmap.specs.IndexMap.{get_by_text}
 use Rattle.fr_core.specs.declared.inputs.Inputs.{Inputs}
 use Rattle.fr_script.specs.declared.turn.Turn.{Turn}
@@ -67,3 +67,19 @@ given_after (turn.Instant i) given = given + 1
 given_after turn.More given = given
 given_after turn.End given = given
 given_after (turn.Refused line kind) given = given
+
+-- an instant that isn't whole yet counts once
+abbrev pub waiting : Option Inputs → ℕ
+waiting None = 0
+waiting (Some i) = 1
+
+-- how much a reader has before it: its bytes count twice, and an instant that isn't whole yet once
+abbrev pub left : ScriptReader → ℕ
+left r = length r.rest + length r.rest + waiting r.past.last
+
+-- a turn that gives an instant leaves less, and no turn leaves more
+abbrev pub Falls : Turn → ℕ → ℕ → Type 0
+Falls (turn.Instant i) old new = new < old
+Falls turn.More old new = new ≤ old
+Falls turn.End old new = new ≤ old
+Falls (turn.Refused line kind) old new = new ≤ old

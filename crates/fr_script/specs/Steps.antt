@@ -1,5 +1,5 @@
 -- How a script reader goes on by one line.
-use Rattle.std.specs.Prelude.{ℕ, ◌+◌, ◌<◌, ◌≡◌, Bool, true, false, List, [], length, drop, Option, Some, None}
+use Rattle.std.specs.Prelude.{ℕ, ◌+◌, ◌<◌, ◌≤◌, ◌≡◌, Bool, true, false, List, [], length, drop, Option, Some, None}
 use Rattle.std.specs.Option.{option_map}
 use Rattle.fr_core.specs.declared.inputs.Inputs.{Inputs}
 use Rattle.fr_script.specs.declared.said.Said.{Said}
@@ -10,7 +10,7 @@ use Rattle.fr_script.specs.declared.reader.ScriptReader.{ScriptReader}
 use Rattle.fr_script.specs.Past.{Past}
 use Rattle.fr_script.specs.Instants.{BadLine, Found}
 use Rattle.fr_script.specs.Ahead.{passed, set_in, closed_by, before, nothing}
-use Rattle.fr_script.specs.Stands.{is_told, MayFollow, ahead_of}
+use Rattle.fr_script.specs.Stands.{is_told, MayFollow, ahead_of, Falls}
 
 -- the turn that a line gives, if any
 abbrev pub turn_of : Said → Past → Option Turn
@@ -44,3 +44,8 @@ TurnGoes (turn.Refused line kind) old new = Onward old None new × ((more : List
 abbrev pub Steps : Option Turn → ScriptReader → ScriptReader → Type 0
 Steps None old new = Onward old None new × (length new.rest < length old.rest)
 Steps (Some t) old new = TurnGoes t old new
+
+-- the same of a step: one without a turn leaves no more
+abbrev pub StepFalls : Option Turn → ℕ → ℕ → Type 0
+StepFalls None old new = new ≤ old
+StepFalls (Some t) old new = Falls t old new

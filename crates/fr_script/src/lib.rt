@@ -1,6 +1,7 @@
 //! Reads event scripts in pieces: the instants that a script's lines give, and its first bad line.
 #![tactic(auto)]
 
+mod laws;
 mod lines;
 mod names;
 mod progress;
@@ -13,6 +14,7 @@ mod tests;
 mod turn;
 mod waiting;
 
+pub use laws::good_scripts_are_short;
 pub use reader::ScriptReader;
 pub use said::values_are_readings;
 pub use turn::{LineKind, Turn};

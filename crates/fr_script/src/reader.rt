@@ -5,8 +5,8 @@ ghost use Rattle.indexmap.specs.IndexMap.{get_by_text};
 ghost use Rattle.fr_script.specs.Lines.{line_end};
 ghost use Rattle.fr_script.specs.Sources.{Named, sources};
 ghost use Rattle.fr_script.specs.Kinds.{says};
-ghost use Rattle.fr_script.specs.Stands.{Stands, TurnSays, given_after, is_told};
-ghost use Rattle.fr_script.specs.Steps.{turn_of, behind_line, Steps, TurnGoes};
+ghost use Rattle.fr_script.specs.Stands.{Stands, TurnSays, given_after, is_told, left, Falls};
+ghost use Rattle.fr_script.specs.Steps.{turn_of, behind_line, Steps, TurnGoes, StepFalls};
 
 use crate::progress::Progress;
 use crate::rest::Rest;
@@ -117,6 +117,7 @@ impl ScriptReader {
         requires good { self.old.bad ≡ None }
         requires rest { line_end self.old.rest ≡ None }
         ensures ok { IfOk result (λ t. Steps t self.old self.new) }
+        ensures falls { IfOk result (λ t. StepFalls t (left self.old) (left self.new)) }
         ensures err { OnErr result (self.new ≡ self.old) }
     {
         let n = self.rest.len();
@@ -134,7 +135,8 @@ impl ScriptReader {
         requires told { is_told self.old ≡ false }
         requires good { self.old.bad ≡ None }
         requires rest { line_end self.old.rest ≡ None }
-        ensures { TurnGoes result self.old self.new }
+        ensures goes { TurnGoes result self.old self.new }
+        ensures falls { Falls result (left self.old) (left self.new) }
     {
         let left = self.rest.len();
         if left == 0 {
@@ -152,6 +154,7 @@ impl ScriptReader {
     /// Takes one line, or tells what there is without one.
     fn step(&mut self) -> Result<Option<Turn>, AllocError>
         ensures ok { IfOk result (λ t. Steps t self.old self.new) }
+        ensures falls { IfOk result (λ t. StepFalls t (left self.old) (left self.new)) }
         ensures err { OnErr result (self.new ≡ self.old) }
     {
         if let Some((line, kind)) = self.bad {
@@ -171,9 +174,12 @@ impl ScriptReader {
 
     /// Gives the next instant; or, where all whole instants were given, the bad line, the end, or `More` where the script
     /// may go on. After want of memory the reader stands where it stood.
+    ///
+    /// An instant leaves less before the reader and no turn leaves more, so that a caller who takes turns comes to an end.
     pub fn next(&mut self) -> Result<Turn, AllocError>
         ensures ok { IfOk result (λ t. (ss : List Named) (fed : List ℕ) (given : ℕ) → Stands self.old ss fed given
             → TurnSays t ss fed (is_told self.old) given × Stands self.new ss fed (given_after t given)) }
+        ensures falls { IfOk result (λ t. Falls t (left self.old) (left self.new)) }
         ensures told { is_told self.new ≡ is_told self.old }
         ensures err { OnErr result ((ss : List Named) (fed : List ℕ) (given : ℕ) → Stands self.old ss fed given → Stands self.new ss fed given) }
     {

@@ -1,0 +1,9 @@
+ghost use Rattle.std.specs.Prelude.{◌≡◌, ◌≤◌, ℕ, List, Bool, None, length};
+ghost use Rattle.fr_script.specs.Sources.{Named};
+ghost use Rattle.fr_script.specs.Instants.{bad_line};
+
+/// A script without a bad line has at most 1,099,511,627,776 bytes.
+#[tactic(auto, using(crate::proofs::Limits::good_is_short))]
+pub fn good_scripts_are_short()
+    ensures { (ss : List Named) (bytes : List ℕ) (ended : Bool) → bad_line ss bytes ended ≡ None → length bytes ≤ 1099511627776 }
+{}
