@@ -5,7 +5,7 @@ use Rattle.fr_sums.specs.declared.inputs.Inputs.{Inputs}
 use Rattle.fr_sums.specs.Afresh.{State, After, beginning, first_instant, instant}
 use Rattle.fr_sums.specs.Script.{script_of}
 use Rattle.fr_show.specs.declared.stop.Stop.TheVariants.{Evaluation, Script}
-use Rattle.fr_show.specs.declared.stop.LineKind.TheVariants as line_kind
+use Rattle.fr_show.specs.declared.stop.ScriptKind.TheVariants as script_kind
 use Rattle.fr_show.specs.Course.{Course, stopped, after}
 
 -- on from an instant: it errs, or its text is written and the course goes on
@@ -20,7 +20,7 @@ course_from p s (i ∷ is) = onward i.time (instant p s i) (λ next. course_from
 
 -- the course over the instants of a script; one that isn't of the form that can be read is refused as a whole
 abbrev pub over_script : Program → Option (List Inputs) → State → Course
-over_script p None s = stopped (Some (Script 0 line_kind.Unbuilt))
+over_script p None s = stopped (Some (Script 0 script_kind.Unbuilt))
 over_script p (Some is) s = course_from p s is
 
 -- a run of the program over the bytes of a script: instant 0, then the script

@@ -1,1 +1,5 @@
 pub mod Verdicts
+pub mod Writing
+pub mod Courses
+pub mod Judged
+pub mod Kept

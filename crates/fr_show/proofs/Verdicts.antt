@@ -118,3 +118,17 @@ refused_front bytes form none h = h
 pub judged_front : (bytes : List ℕ) (v : Verdict) → IsVerdict (take 1048577 bytes) v → IsVerdict bytes v
 judged_front bytes (Ok p) h = on_whole bytes (λ b. IsProgram b p) h.read.short h
 judged_front bytes (Err r) h = refused_front bytes r.form (cause_of r.kind) h
+
+on_front : (bytes : List ℕ) (P : List ℕ → Type 0) → length bytes ≤ 1048576 → P bytes → P (take 1048577 bytes)
+on_front bytes P h k = subst P (sym (take_all 1048577 bytes (omega (arith, h)))) k
+
+refused_back : (bytes : List ℕ) (form : ℕ) (c : Cause) → IsRefusedFor bytes form c → IsRefusedFor (take 1048577 bytes) form c
+refused_back bytes form long h = (h.0, omega (arith, length-take 1048577 bytes, h.1))
+refused_back bytes form unread h = on_front bytes (λ b. IsRefusedFor b form unread) h.0 h
+refused_back bytes form (refused c) h = on_front bytes (λ b. IsRefusedFor b form (refused c)) h.read.short h
+refused_back bytes form none h = h
+
+-- the whole is judged as its first 1,048,577 bytes
+pub front_judged : (bytes : List ℕ) (v : Verdict) → IsVerdict bytes v → IsVerdict (take 1048577 bytes) v
+front_judged bytes (Ok p) h = on_front bytes (λ b. IsProgram b p) h.read.short h
+front_judged bytes (Err r) h = refused_back bytes r.form (cause_of r.kind) h

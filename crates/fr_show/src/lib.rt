@@ -3,8 +3,12 @@
 
 mod acceptance;
 mod laws;
+mod shows;
 mod stop;
+#[cfg(test)]
+mod tests;
 
 pub use acceptance::{AcceptStop, PROGRAM_LIMIT, accept, program_of, read_forms};
 pub use laws::{front_decides, verdict_is_one};
-pub use stop::{LineKind, ProgramKind, Stop};
+pub use shows::Shows;
+pub use stop::{ProgramKind, ScriptKind, Stop};

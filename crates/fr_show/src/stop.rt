@@ -1,3 +1,4 @@
+use fr_script::LineKind;
 use std::alloc::AllocError;
 
 /// Why a program is refused.
@@ -23,10 +24,12 @@ pub enum ProgramKind {
     Unbuilt,
 }
 
-/// Why a line of a script is refused.
+/// Why a script is refused.
 #[derive(Clone, Copy, Debug, PartialEq, Eq)]
-pub enum LineKind {
-    /// The script isn't of the form that can be read today.
+pub enum ScriptKind {
+    /// The line is bad.
+    Line(LineKind),
+    /// The script isn't of the form that `run` can read today. The line is 0.
     Unbuilt,
 }
 
@@ -38,7 +41,7 @@ pub enum Stop {
     /// The program is refused at this form, counted from 1; form 0 is the text as a whole.
     Program { form: u32, kind: ProgramKind },
     /// The script is refused at this line, counted from 1; line 0 is the script as a whole.
-    Script { line: u64, kind: LineKind },
+    Script { line: u64, kind: ScriptKind },
     /// The instant of this time errs.
     Evaluation(u64),
     /// A file couldn't be read.
