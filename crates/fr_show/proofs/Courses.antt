@@ -8,9 +8,9 @@ use Rattle.fr_io.specs.Files.{AppendsSome}
 use Rattle.fr_io.proofs.Appending.{appends_more}
 use Rattle.fr_show.specs.declared.stop.Stop.{Stop}
 use Rattle.fr_show.specs.declared.stop.Stop.TheVariants.{Usage, Script, Evaluation, Program, Read, Write, Memory}
-use Rattle.fr_show.specs.Course.{Course, joined, after, stopped}
+use Rattle.fr_show.specs.Course.{Course, joined, after}
 use Rattle.fr_show.specs.Ends.{StopSays, EndsThere, AppendsWhole}
-use Rattle.fr_show.proofs.Writing.{some_front, some_behind}
+use Rattle.fr_show.proofs.Writing.{some_behind}
 
 pub joined_append : (a b : List (List ℕ)) → joined (a ++ b) ≡ joined a ++ joined b
 joined_append [] b = refl

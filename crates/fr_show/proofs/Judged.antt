@@ -1,5 +1,5 @@
 -- A text is judged, and the verdict leads to a course.
-use Rattle.std.proofs.Common.{◌≡◌, ℕ, List, take, refl, sym, subst, None, Some, Ok, Err, IfSome, Option, ◌≤◌, length, ◌∙◌}
+use Rattle.std.proofs.Common.{◌≡◌, ℕ, List, take, sym, subst, None, Some, IfSome, Option, ◌≤◌, length, ◌∙◌}
 use Rattle.fr_io.specs.Files.{ReachesFront}
 use Rattle.fr_core.specs.declared.program.Program.{Program as Core}
 use Rattle.fr_show.specs.declared.stop.Stop.{Stop}

@@ -1,18 +1,17 @@
 -- A text has one verdict, and its front decides it.
-use Rattle.std.proofs.Common.{ℕ, ◌≡◌, ◌≤◌, ◌+◌, List, length, take, Option, Some, None, Result, Ok, Err, refl, sym, ◌∙◌, ap, subst, arith}
+use Rattle.std.proofs.Common.{ℕ, ◌≡◌, ◌≤◌, ◌+◌, List, length, take, Result, Ok, Err, refl, sym, ◌∙◌, ap, subst, arith}
 use Rattle.std.proofs.lemmas.List.{length-take, take_all}
-use Rattle.fr_value.specs.Grammar.{IsRefused, Reads}
+use Rattle.fr_value.specs.Grammar.{IsRefused}
 use Rattle.fr_value.specs.declared.value.Datum.{Datum}
 use Rattle.fr_value.proofs.Meet.{reads_one}
 use Rattle.fr_core.specs.declared.program.Program.{Program}
-use Rattle.fr_expand.specs.declared.refusal.Kind.{Kind}
 use Rattle.fr_expand.specs.declared.refusal.Kind.TheVariants as form_kind
 use Rattle.fr_expand.specs.declared.refusal.Refusal.{Refusal as FormRefusal}
 use Rattle.fr_expand.specs.Expansion.{IsExpansion}
 use Rattle.fr_expand.proofs.OneExpansion.{expansion_is_one}
 use Rattle.fr_show.specs.declared.stop.ProgramKind.{ProgramKind}
 use Rattle.fr_show.specs.declared.stop.ProgramKind.TheVariants.{Length, Text, Form, Name, Unbound, Twice, Handler, Nesting, Unbuilt}
-use Rattle.fr_show.specs.Accepted.{IsForms, IsProgram, IsNoProgram, Cause, long, unread, refused, none, cause_of, IsRefusedFor, IsRefusedAs, IsVerdict, Verdict, Refusal}
+use Rattle.fr_show.specs.Accepted.{IsForms, IsProgram, Cause, long, unread, refused, none, cause_of, IsRefusedFor, IsVerdict, Verdict, Refusal}
 
 -- the forms of a text expand in one way
 expands_one : (bytes : List ℕ) (f g : List Datum) (v w : Result Program FormRefusal) → IsForms bytes f → IsForms bytes g → IsExpansion f v → IsExpansion g w → v ≡ w

@@ -1,5 +1,5 @@
 -- The course of a command: the texts that are written, each whole, and how it ends.
-use Rattle.std.specs.Prelude.{ℕ, List, [], ◌∷◌, ◌++◌, Option, Some, None}
+use Rattle.std.specs.Prelude.{ℕ, List, [], ◌∷◌, ◌++◌, Option}
 use Rattle.fr_show.specs.declared.stop.Stop.{Stop}
 
 -- the texts in order, and the stop, or none where it goes to the end
