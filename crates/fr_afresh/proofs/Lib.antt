@@ -1,0 +1,5 @@
+pub mod Turns
+pub mod Handled
+pub mod SourceSteps
+pub mod Good
+pub mod Instants

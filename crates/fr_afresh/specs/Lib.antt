@@ -1,0 +1,4 @@
+pub mod Stands
+pub mod Here
+pub mod Bodies
+pub mod Tells

@@ -1,0 +1,18 @@
+-- What code tells of a body that was evaluated.
+use Rattle.std.specs.Prelude.{◌≡◌, ℕ, List, Option, Some, None, Ok, Err}
+use Rattle.fr_value.specs.declared.now.Bad.{Bad}
+use Rattle.fr_meaning.specs.Words.{Seen, First}
+use Rattle.fr_meaning.specs.Afresh.{Evaluated}
+use Rattle.fr_afresh.specs.declared.bodies.Progress.{Progress}
+use Rattle.fr_afresh.specs.declared.running.AfreshStop.{AfreshStop}
+use Rattle.fr_afresh.specs.Bodies.{all_good}
+
+-- what was done tells of items that were evaluated
+pub record Tells (p : Progress) (n : Evaluated) : Type 0 where
+  pub shown : p.shown ≡ n.shown
+  pub kepts : p.kepts ≡ n.kepts
+  pub first : p.first ≡ n.first
+
+-- where nothing errs, no shown value is Bad
+abbrev pub IsClean : Progress → Type 0
+IsClean p = p.first ≡ None → all_good p.shown ≡ None → ⊥

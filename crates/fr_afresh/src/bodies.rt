@@ -1,0 +1,178 @@
+//! The items of a program's body, one after the other.
+ghost use Rattle.std.specs.Prelude.{◌≡◌, ◌+◌, ℕ, List, [], ◌∷◌, ◌++◌, IfOk};
+ghost use Rattle.fr_core.specs.declared.program.Item.{Item as BodyItem};
+ghost use Rattle.fr_meaning.specs.Afresh.{items as all_items, sources_at, body};
+ghost use Rattle.fr_afresh.specs.Here.{here};
+ghost use Rattle.fr_afresh.specs.Bodies.{behind_define, behind_show, whole, unbegun, all_good};
+ghost use Rattle.fr_afresh.specs.Tells.{Tells, IsClean};
+
+use crate::evaluation::{At, eval};
+use crate::sources::source_values;
+use fr_core::{Core, Inputs, Item, Kept, Program};
+use fr_lines::{Done, First, Seen, either, kept_part, under_part};
+use fr_value::{Now, Value};
+use sqlite_items::Items;
+use std::alloc::{AllocError, Global};
+
+/// The items that were evaluated so far: the values that they bound, the values of shows, what the items keep, and their
+/// first error.
+#[derive(Drop)]
+pub struct Progress {
+    pub env: Items<Seen>,
+    pub shown: Items<Seen>,
+    pub kepts: Items<Kept>,
+    pub first: First,
+}
+
+/// The levels that an item's expression may nest.
+const LEVELS: u32 = 2000;
+
+fn define_item(
+    alloc: Global,
+    at: &At<'_>,
+    number: usize,
+    so_far: Progress,
+    expr: &Core,
+    kept: &Kept,
+) -> Result<Progress, AllocError>
+    ensures { IfOk result (λ p. p ≡ behind_define (here at.now 2000) kept.now number so_far expr.now) }
+{
+    let Progress {
+        mut env,
+        shown,
+        mut kepts,
+        first,
+    } = so_far;
+    let Done {
+        value,
+        kept: tree,
+        first: inner,
+    } = eval(
+        alloc,
+        at,
+        LEVELS,
+        &mut env,
+        expr,
+        kept_part(Some(kept), number),
+    )?;
+    env.push(value)?;
+    kepts.push(tree)?;
+    let first = either(first, under_part(number, inner)?);
+    Ok(Progress {
+        env,
+        shown,
+        kepts,
+        first,
+    })
+}
+
+fn show_item(
+    alloc: Global,
+    at: &At<'_>,
+    number: usize,
+    so_far: Progress,
+    expr: &Core,
+    kept: &Kept,
+) -> Result<Progress, AllocError>
+    ensures { IfOk result (λ p. p ≡ behind_show (here at.now 2000) kept.now number so_far expr.now) }
+{
+    let Progress {
+        mut env,
+        mut shown,
+        mut kepts,
+        first,
+    } = so_far;
+    let Done {
+        value,
+        kept: tree,
+        first: inner,
+    } = eval(
+        alloc,
+        at,
+        LEVELS,
+        &mut env,
+        expr,
+        kept_part(Some(kept), number),
+    )?;
+    shown.push(value)?;
+    kepts.push(tree)?;
+    let first = either(first, under_part(number, inner)?);
+    Ok(Progress {
+        env,
+        shown,
+        kepts,
+        first,
+    })
+}
+
+/// Evaluates one item more.
+fn next_item(
+    alloc: Global,
+    at: &At<'_>,
+    number: usize,
+    so_far: Progress,
+    item: &Item,
+    kept: &Kept,
+) -> Result<Progress, AllocError>
+    ensures { IfOk result (λ p. (is : List BodyItem) → whole (here at.now 2000) kept.now (number + 1) p is ≡ whole (here at.now 2000) kept.now number so_far (item.now ∷ is)) }
+{
+    match item {
+        Item::Define(expr) => define_item(alloc, at, number, so_far, expr, kept),
+        Item::Show(_, expr) => show_item(alloc, at, number, so_far, expr, kept),
+    }
+}
+
+/// Evaluates all items, over what they kept. It fails only where there is no memory.
+pub fn eval_items(
+    alloc: Global,
+    at: &At<'_>,
+    items: &[Item],
+    kept: &Kept,
+) -> Result<Progress, AllocError>
+    ensures { IfOk result (λ p. Tells p (all_items (here at.now 2000) [] kept.now 0 items.now)) }
+{
+    let mut so_far = Progress {
+        env: Items::new(alloc),
+        shown: Items::new(alloc),
+        kepts: Items::new(alloc),
+        first: None,
+    };
+    for i in 0..items.len() {
+        so_far = next_item(alloc, at, i, so_far, &items[i], kept)?;
+    }
+    Ok(so_far)
+}
+
+/// The values, with one more owner each, where none of them is Bad. It fails only where there is no memory.
+pub fn good_values(alloc: Global, values: &[Seen]) -> Result<Option<Items<Now>>, AllocError>
+    ensures { IfOk result (λ o. o ≡ all_good values.now) }
+{
+    let mut good = Items::new(alloc);
+    for value in values {
+        match value {
+            Ok(now) => good.push(now.share()?)?,
+            Err(_) => return Ok(None),
+        }
+    }
+    Ok(Some(good))
+}
+
+/// Evaluates a program's body at an instant, over the values of its inputs and what it kept. It fails where there is no
+/// memory, and where `source_values` does.
+pub fn eval_body(
+    alloc: Global,
+    program: &Program,
+    values: &[Value],
+    kept: &Kept,
+    inputs: &Inputs,
+) -> Result<Progress, AllocError>
+    ensures told { IfOk result (λ p. Tells p (body program.now (sources_at program.now values.now inputs.now) kept.now)) }
+    ensures clean { IfOk result (λ p. IsClean p) }
+{
+    let sources = source_values(alloc, program, values, inputs)?;
+    let at = At {
+        functions: program.functions.as_slice(),
+        sources: sources.as_slice(),
+    };
+    eval_items(alloc, &at, program.body.as_slice(), kept)
+}

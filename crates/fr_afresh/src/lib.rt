@@ -1,0 +1,10 @@
+//! Evaluates a program afresh at every instant, over its inputs and what it kept.
+#![tactic(auto)]
+
+mod bodies;
+mod evaluation;
+mod places;
+mod running;
+mod sources;
+
+pub use running::{Afresh, AfreshStop, FirstBad};
