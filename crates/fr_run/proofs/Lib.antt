@@ -1,0 +1,5 @@
+mod Each
+mod Readers
+mod Says
+mod Loops
+mod Wholes

@@ -1,0 +1,27 @@
+use Rattle.std.proofs.Common.{None, Ok}
+use Rattle.fr_show.specs.Course.{Course}
+use Rattle.fr_show.specs.Ends.{EndsThere, StopSays}
+use Rattle.fr_show.specs.Accepted.{IsVerdict}
+use Rattle.fr_show.specs.Output.{course_over}
+use Rattle.fr_show.proofs.Judged.{text_judging, says_judged}
+use Rattle.fr_run.proofs.Wholes.{over_told, says_unaccepted}
+use Rattle.fr_run.proofs.session.afresh_session.Goals as goal
+
+pub returns-in-Err-clause-err : goal.returns-in-Err-clause-err
+returns-in-Err-clause-err g c =
+    rw c.refusal_of.ensures.value (says_unaccepted c.args.program.now (g.S.Shelf.holds c.args.shelf.now c.args.script.now) c.in-Err.stop (g.O.Sink.written c.args.out.now) c.in-Err.ensures.refused)
+
+pub returns-in-Ok-run_program-clause-ok : goal.returns-in-Ok-run_program-clause-ok
+returns-in-Ok-run_program-clause-ok g c =
+    let held = g.S.Shelf.holds c.args.shelf.now c.args.script.now in (
+      Ok c.in-Ok.program,
+      c.in-Ok.ensures.accepted,
+      over_told c.in-Ok.program held (λ (d : Course). EndsThere None d (g.O.Sink.written c.args.out.now) (g.O.Sink.written c.run_program.new.out)) c.in-Ok-run_program.ensures.ok,
+    )
+
+pub returns-in-Err-run_program-clause-err : goal.returns-in-Err-run_program-clause-err
+returns-in-Err-run_program-clause-err g c =
+    let held = g.S.Shelf.holds c.args.shelf.now c.args.script.now in
+    says_judged IsVerdict text_judging (course_over held) c.args.program.now (Ok c.in-Ok.program) c.in-Err-run_program.stop (g.O.Sink.written c.args.out.now) (g.O.Sink.written c.run_program.new.out)
+    c.in-Ok.ensures.accepted
+    (over_told c.in-Ok.program held (λ (d : Course). StopSays c.in-Err-run_program.stop d (g.O.Sink.written c.args.out.now) (g.O.Sink.written c.run_program.new.out)) c.in-Err-run_program.ensures.err)
