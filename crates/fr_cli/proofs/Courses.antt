@@ -1,4 +1,4 @@
--- Courses, text by text.
+-- The course of `run`, instant by instant.
 use Rattle.std.proofs.Common.{◌≡◌, ◌∙◌, ℕ, suc, ◌+◌, ◌<◌, add-one, drop-cons, get_or, drop, List, [], ◌∷◌, ◌++◌, length, take, ap, sym, refl, subst, arith, append_assoc, rules, None, Some, length-append}
 use Rattle.std.proofs.Math.Seq.{take-append-add}
 use Rattle.std.specs.declared.option.Option.{Option}
@@ -15,84 +15,19 @@ use Rattle.fr_sums.specs.Afresh.{State, After, instant}
 use Rattle.fr_show.specs.Course.{Course, joined, after, stopped}
 use Rattle.fr_first.specs.Course.{onward, course_from}
 use Rattle.fr_engine.specs.Running.{Running, state_of, Goes}
-use Rattle.fr_cli.specs.Ends.{StopSays, EndsThere, AppendsWhole}
-use Rattle.fr_cli.proofs.Writing.{some_front, some_behind}
-
-pub joined_append : (a b : List (List ℕ)) → joined (a ++ b) ≡ joined a ++ joined b
-joined_append [] b = refl
-joined_append (t ∷ a) b = ap (λ (z : List ℕ). t ++ z) (joined_append a b) ∙ sym (append_assoc t (joined a) (joined b))
-
-pub texts_after : (done : List (List ℕ)) (c : Course) → (after done c).texts ≡ done ++ c.texts
-texts_after [] c = refl
-texts_after (t ∷ done) c = ap (λ (z : List (List ℕ)). t ∷ z) (texts_after done c)
-
-pub stop_after : (done : List (List ℕ)) (c : Course) → (after done c).stop ≡ c.stop
-stop_after [] c = refl
-stop_after (t ∷ done) c = stop_after done c
-
-pub after_after : (d e : List (List ℕ)) (c : Course) → after (d ++ e) c ≡ after d (after e c)
-after_after [] e c = refl
-after_after (t ∷ d) e c = let h = after_after d e c in ap (λ (z : Course). let r : Course = record { texts = t ∷ z.texts; stop = z.stop } in r) h
-
-pub appends_nothing : (x : Option (List ℕ)) → Appends x x []
-appends_nothing None = tt
-appends_nothing (Some x) = search rules
-
--- what a stop says of a course, it says of the course behind what was written before
-pub ends_after : (stop : Option Stop) (done : List (List ℕ)) (c : Course) (x y z : Option (List ℕ)) → Appends x y (joined done)
-    → EndsThere stop c y z → EndsThere stop (after done c) x z
-ends_after stop done c x y z h (e, k) = (
-  stop_after done c ∙ e,
-  subst (λ (w : List ℕ). Appends x z w) (sym (ap joined (texts_after done c) ∙ joined_append done c.texts)) (appends_more x y z _ _ h k),
-)
-
--- the same of texts that were written whole
-pub whole_behind : (done texts : List (List ℕ)) (x y z : Option (List ℕ)) → Appends x y (joined done) → AppendsWhole y z texts → AppendsWhole x z (done ++ texts)
-whole_behind done texts x y z h (k, le, w) = (
-  length done + k,
-  omega (arith, length-append done texts),
-  subst (λ (w : List ℕ). Appends x z w) (sym (ap joined (take-append-add done texts k) ∙ joined_append done (take k texts))) (appends_more x y z _ _ h w),
-)
-
-pub whole_after : (done : List (List ℕ)) (c : Course) (x y z : Option (List ℕ)) → Appends x y (joined done)
-    → AppendsWhole y z c.texts → AppendsWhole x z (after done c).texts
-whole_after done c x y z h w = subst (λ (ts : List (List ℕ)). AppendsWhole x z ts) (sym (texts_after done c)) (whole_behind done c.texts x y z h w)
-
-pub some_after : (done : List (List ℕ)) (c : Course) (x y z : Option (List ℕ)) → Appends x y (joined done)
-    → AppendsSome y z (joined c.texts) → AppendsSome x z (joined (after done c).texts)
-some_after done c x y z h w =
-    subst (λ (l : List ℕ). AppendsSome x z l) (sym (ap joined (texts_after done c) ∙ joined_append done c.texts)) (some_behind x y z (joined done) (joined c.texts) h w)
-
--- a stop that isn't a read fault, behind these texts
-pub says_after : (stop : Stop) (done : List (List ℕ)) (c : Course) (x y z : Option (List ℕ)) → Appends x y (joined done) → (stop ≡ Read → ⊥)
-    → StopSays stop c y z → StopSays stop (after done c) x z
-says_after Usage done c x y z h other s = ends_after _ done c x y z h s
-says_after (Program f k) done c x y z h other s = ends_after _ done c x y z h s
-says_after (Script n k) done c x y z h other s = ends_after _ done c x y z h s
-says_after (Evaluation n) done c x y z h other s = ends_after _ done c x y z h s
-says_after Read done c x y z h other s = absurd (other refl)
-says_after Write done c x y z h other s = some_after done c x y z h s
-says_after (Memory e) done c x y z h other s = whole_after done c x y z h s
+use Rattle.fr_show.specs.Ends.{StopSays, EndsThere, AppendsWhole}
+use Rattle.fr_show.proofs.Writing.{some_front}
+use Rattle.fr_show.proofs.Courses.{joined_append, after_after, says_after, appends_nothing, appends_one}
 
 -- an instant that errs stops the course
 pub errs : (o : Option After) (t time : ℕ) (rest : State → Course) (x : Option (List ℕ)) → o ≡ None → t ≡ time → StopSays (Evaluation t) (onward time o rest) x x
 errs o t time rest x e same =
     subst (λ (w : Option After). StopSays (Evaluation t) (onward time w rest) x x) (sym e) (ap (λ (n : ℕ). Some (Evaluation n)) (sym same), appends_nothing x)
 
--- nothing was written
-pub nothing_whole : (texts : List (List ℕ)) (x : Option (List ℕ)) → AppendsWhole x x texts
-nothing_whole texts x = (0, omega arith, appends_nothing x)
-
 -- an instant that gives its text goes on behind it
 pub gives : (old new : Running) (i : Inputs) (text : List ℕ) (k : Kept) → Goes old i text new
     → (k' : Kept) × ((rest : State → Course) → onward i.time (instant old.program (state_of old k) i) rest ≡ after (text ∷ []) (rest (state_of new k')))
 gives old new i text k goes = let g = goes.1 k in (g.0, λ rest. ap (λ (o : Option After). onward i.time o rest) g.1)
-
-one_joined : (text : List ℕ) → joined (text ∷ []) ≡ text
-one_joined text = append-nil text
-
-pub appends_one : (x y : Option (List ℕ)) (text : List ℕ) → Appends x y text → Appends x y (joined (text ∷ []))
-appends_one x y text h = subst (λ (l : List ℕ). Appends x y l) (sym (one_joined text)) h
 
 -- a write of an instant's text that fails
 pub cut : (old new : Running) (i : Inputs) (text : List ℕ) (k : Kept) (rest : State → Course) (x y : Option (List ℕ)) → Goes old i text new

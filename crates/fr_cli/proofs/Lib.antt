@@ -1,4 +1,3 @@
-pub mod Writing
 pub mod Courses
 pub mod Sessions
 pub mod Runs

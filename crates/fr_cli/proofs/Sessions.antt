@@ -7,7 +7,7 @@ use Rattle.std.specs.Io.KnownBytes.{Appends}
 use Rattle.fr_io.specs.Files.{ReachesFront}
 use Rattle.fr_show.specs.declared.stop.Stop.{Stop}
 use Rattle.fr_show.specs.declared.stop.Stop.TheVariants.{Usage, Script, Evaluation, Program, Read, Write, Memory}
-use Rattle.fr_show.specs.declared.stop.LineKind.TheVariants as line_kind
+use Rattle.fr_show.specs.declared.stop.ScriptKind.TheVariants as script_kind
 use Rattle.fr_sums.specs.declared.program.Program.{Program as Source}
 use Rattle.fr_sums.specs.declared.inputs.Inputs.{Inputs}
 use Rattle.fr_sums.specs.declared.inputs.Set.{Set}
@@ -19,8 +19,9 @@ use Rattle.fr_sums.specs.Script.{script_of, instants_of, each_line, lines}
 use Rattle.fr_show.specs.Course.{Course, joined, after, stopped}
 use Rattle.fr_first.specs.Course.{onward, over_script, run_course}
 use Rattle.fr_engine.specs.Running.{Running, running, state_of, Goes}
-use Rattle.fr_cli.specs.Ends.{StopSays, EndsThere}
-use Rattle.fr_cli.proofs.Courses.{gives, ends_after, whole_after, some_after, appends_one, appends_nothing}
+use Rattle.fr_show.specs.Ends.{StopSays, EndsThere}
+use Rattle.fr_show.proofs.Courses.{ends_after, whole_after, some_after, appends_one, appends_nothing}
+use Rattle.fr_cli.proofs.Courses.{gives}
 
 -- what holds of all bytes holds of those that are told
 pub told_all : (o : Option (List ℕ)) (F : List ℕ → Type 0) → ((b : List ℕ) → F b) → IfSome o F
@@ -65,7 +66,7 @@ of_script (Some file) bytes p s o F h e k =
     let is : o ≡ script_of p file = e ∙ ap (λ (b : List ℕ). script_of p b) h ∙ script_front p file in
     subst (λ (w : Option (List Inputs)). F (over_script p w s)) is k
 
-pub refused_whole : (p : Source) (s : State) (x : Option (List ℕ)) → StopSays (Script 0 line_kind.Unbuilt) (over_script p None s) x x
+pub refused_whole : (p : Source) (s : State) (x : Option (List ℕ)) → StopSays (Script 0 script_kind.Unbuilt) (over_script p None s) x x
 refused_whole p s x = (refl, appends_nothing x)
 
 -- all instants were run and written

@@ -1,16 +1,18 @@
 -- What a status says, by the stop that it stands for.
-use Rattle.std.proofs.Common.{◌≡◌, ◌∙◌, ℕ, ◌≤◌, List, length, take, drop, ap, sym, refl, subst, arith, None, Some, IfSome, Option}
+use Rattle.std.proofs.Common.{◌≡◌, ◌⊎◌, inl, inr, ◌∙◌, ℕ, ◌≤◌, List, length, take, drop, ap, sym, refl, subst, arith, None, Some, IfSome, Option}
 use Rattle.std.proofs.lemmas.List.{take_all, length-take, take-append-le, take-append-drop}
 use Rattle.std.specs.Io.KnownBytes.{Appends}
 use Rattle.fr_show.specs.declared.stop.Stop.{Stop}
 use Rattle.fr_show.specs.declared.stop.Stop.TheVariants.{Usage, Script, Evaluation, Program, Read, Write, Memory}
 use Rattle.fr_show.specs.Accepted.{IsVerdict, OnJudged, OnEachJudged}
+use Rattle.fr_show.specs.Output.{course_over}
 use Rattle.fr_first.specs.Sums.{IsVerdict as IsRunVerdict, course_of}
 use Rattle.fr_show.specs.Course.{Course, joined}
-use Rattle.fr_cli.specs.Command.{Command, run, check, checked, OnCommand, OnEachCommand}
-use Rattle.fr_cli.specs.Ends.{StopSays, SaysOn, EndsThere, AppendsWhole, RefusesProgram, RefusesScript, Errs}
-use Rattle.fr_cli.specs.Lines.{status_of}
-use Rattle.fr_cli.proofs.Runs.{each_of, run_judging, check_judging}
+use Rattle.fr_cli.specs.Command.{Command, run, afresh, check, checked, OnCommand, OnEachCommand}
+use Rattle.fr_show.specs.Ends.{StopSays, SaysOn, EndsThere, AppendsWhole, RefusesProgram, RefusesScript, Errs}
+use Rattle.fr_cli.specs.Lines.{status_of, status_of_end}
+use Rattle.fr_show.proofs.Judged.{each_of, text_judging}
+use Rattle.fr_cli.proofs.Runs.{run_judging}
 
 some_map : (o : Option Course) (F G : Course → Type 0) → ((c : Course) → F c → G c) → IfSome o F → IfSome o G
 some_map None F G h k = tt
@@ -25,6 +27,7 @@ judged_map judged course (Some bytes) F G h k = (k.0, k.1, some_map (course k.0)
 pub on_map : (w : Option Command) (holds : List ℕ → Option (List ℕ)) (F G : Course → Type 0) → ((c : Course) → F c → G c) → OnCommand w holds F → OnCommand w holds G
 on_map None holds F G h k = h _ k
 on_map (Some (run p s)) holds F G h k = judged_map IsRunVerdict (course_of (holds s)) (holds p) F G h k
+on_map (Some (afresh p s)) holds F G h k = judged_map IsVerdict (course_over (holds s)) (holds p) F G h k
 on_map (Some (check p)) holds F G h k = judged_map IsVerdict checked (holds p) F G h k
 
 each_map : {V : Type 0} (judged : List ℕ → V → Type 0) (course : V → Option Course) (held : Option (List ℕ)) (F G : Course → Type 0) → ((c : Course) → F c → G c)
@@ -36,12 +39,14 @@ each_map judged course (Some bytes) F G h k = λ v is. some_map (course v) F G h
 on_each_map : (w : Option Command) (holds : List ℕ → Option (List ℕ)) (F G : Course → Type 0) → ((c : Course) → F c → G c) → OnEachCommand w holds F → OnEachCommand w holds G
 on_each_map None holds F G h k = h _ k
 on_each_map (Some (run p s)) holds F G h k = each_map IsRunVerdict (course_of (holds s)) (holds p) F G h k
+on_each_map (Some (afresh p s)) holds F G h k = each_map IsVerdict (course_over (holds s)) (holds p) F G h k
 on_each_map (Some (check p)) holds F G h k = each_map IsVerdict checked (holds p) F G h k
 
 on_to_each : (w : Option Command) (holds : List ℕ → Option (List ℕ)) (F : Course → Type 0) → OnCommand w holds F → OnEachCommand w holds F
 on_to_each None holds F k = k
 on_to_each (Some (run p s)) holds F k = each_of IsRunVerdict run_judging (course_of (holds s)) (holds p) F k
-on_to_each (Some (check p)) holds F k = each_of IsVerdict check_judging checked (holds p) F k
+on_to_each (Some (afresh p s)) holds F k = each_of IsVerdict text_judging (course_over (holds s)) (holds p) F k
+on_to_each (Some (check p)) holds F k = each_of IsVerdict text_judging checked (holds p) F k
 
 -- what a stop of a command says
 abbrev pub Says : Stop → Option Command → (List ℕ → Option (List ℕ)) → Option (List ℕ) → Option (List ℕ) → Type 0
@@ -107,3 +112,20 @@ says_whole (Evaluation t) w holds x y e s = ends_whole (Some (Evaluation t)) w h
 says_whole Read w holds x y e s = on_each_map w holds (λ c. StopSays Read c x y) (λ c. AppendsWhole x y c.texts) (λ c h. first_whole c.texts x y h) s
 says_whole Write w holds x y e s = absurd (e refl)
 says_whole (Memory m) w holds x y e s = s
+
+-- a course that ends so has the status of that end
+ends_complete : (stop : Stop) (w : Option Command) (holds : List ℕ → Option (List ℕ)) (x y : Option (List ℕ)) → OnCommand w holds (λ c. EndsThere (Some stop) c x y)
+    → OnCommand w holds (λ c. status_of stop ≡ status_of_end c.stop) ⊎ (status_of stop ≡ 8)
+ends_complete stop w holds x y s =
+    inl (on_map w holds (λ c. EndsThere (Some stop) c x y) (λ c. status_of stop ≡ status_of_end c.stop) (λ c h. ap status_of_end (sym h.0)) s)
+
+-- a stop that is no fault is the course's own, or want of memory
+pub says_complete : (stop : Stop) (w : Option Command) (holds : List ℕ → Option (List ℕ)) (x y : Option (List ℕ)) → (status_of stop ≡ 6 → ⊥) → (status_of stop ≡ 7 → ⊥) → Says stop w holds x y
+    → OnCommand w holds (λ c. status_of stop ≡ status_of_end c.stop) ⊎ (status_of stop ≡ 8)
+says_complete Usage w holds x y read write s = ends_complete Usage w holds x y s
+says_complete (Program f k) w holds x y read write s = ends_complete (Program f k) w holds x y s
+says_complete (Script n k) w holds x y read write s = ends_complete (Script n k) w holds x y s
+says_complete (Evaluation t) w holds x y read write s = ends_complete (Evaluation t) w holds x y s
+says_complete Read w holds x y read write s = absurd (read refl)
+says_complete Write w holds x y read write s = absurd (write refl)
+says_complete (Memory e) w holds x y read write s = inr refl

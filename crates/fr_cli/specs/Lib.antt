@@ -1,4 +1,3 @@
 pub mod Command
-pub mod Ends
 pub mod Lines
 pub mod Told

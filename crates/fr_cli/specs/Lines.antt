@@ -7,10 +7,12 @@ use Rattle.fr_show.specs.declared.stop.Stop.{Stop}
 use Rattle.fr_show.specs.declared.stop.Stop.TheVariants.{Usage, Program, Script, Evaluation, Read, Write, Memory}
 use Rattle.fr_show.specs.declared.stop.ProgramKind.{ProgramKind}
 use Rattle.fr_show.specs.declared.stop.ProgramKind.TheVariants as program_kind
-use Rattle.fr_show.specs.declared.stop.LineKind.{LineKind}
-use Rattle.fr_show.specs.declared.stop.LineKind.TheVariants as line_kind
+use Rattle.fr_script.specs.declared.turn.LineKind.{LineKind}
+use Rattle.fr_script.specs.declared.turn.LineKind.TheVariants as line_kind
+use Rattle.fr_show.specs.declared.stop.ScriptKind.{ScriptKind}
+use Rattle.fr_show.specs.declared.stop.ScriptKind.TheVariants as script_kind
 use Rattle.fr_cli.specs.Command.{OnWords, OnEachWords}
-use Rattle.fr_cli.specs.Ends.{SaysOn}
+use Rattle.fr_show.specs.Ends.{SaysOn}
 
 abbrev pub status_of : Stop → ℕ
 status_of Usage = 1
@@ -38,7 +40,17 @@ program_word program_kind.Nesting = codes "nesting"
 program_word program_kind.Unbuilt = codes "unbuilt"
 
 abbrev pub line_word : LineKind → List ℕ
-line_word line_kind.Unbuilt = codes "unbuilt"
+line_word line_kind.Grammar = codes "grammar"
+line_word line_kind.Name = codes "name"
+line_word line_kind.Twice = codes "twice"
+line_word line_kind.Time = codes "time"
+line_word line_kind.Value = codes "value"
+line_word line_kind.Long = codes "long"
+line_word line_kind.Many = codes "many"
+
+abbrev pub script_word : ScriptKind → List ℕ
+script_word (script_kind.Line kind) = line_word kind
+script_word script_kind.Unbuilt = codes "unbuilt"
 
 -- how the line of a refusal ends
 abbrev pub refusal_end : List ℕ → List ℕ
@@ -48,7 +60,7 @@ refusal_end word = codes ": " ++ word ++ codes "\n"
 unfoldable pub line_of : Stop → List ℕ
 line_of Usage = codes "usage\n"
 line_of (Program form kind) = codes "program refused at form " ++ decimal form ++ refusal_end (program_word kind)
-line_of (Script line kind) = codes "script refused at line " ++ decimal line ++ refusal_end (line_word kind)
+line_of (Script line kind) = codes "script refused at line " ++ decimal line ++ refusal_end (script_word kind)
 line_of (Evaluation time) = codes "evaluation error at time " ++ decimal time ++ codes "\n"
 line_of Read = codes "read fault\n"
 line_of Write = codes "write fault\n"

@@ -1,6 +1,6 @@
 ghost use Rattle.std.specs.Prelude.{◌≡◌, map, string_bytes};
 ghost use Rattle.std.specs.Option.{option_map};
-ghost use Rattle.fr_cli.specs.Command.{command_of, names_file};
+ghost use Rattle.fr_cli.specs.Command.{command_of, names_file, over_program, over_script};
 ghost use Rattle.fr_cli.specs.Told.{told};
 
 /// What the words ask for, with the files that they name.
@@ -8,6 +8,8 @@ ghost use Rattle.fr_cli.specs.Told.{told};
 pub enum Request<'a> {
     /// `run PROGRAM SCRIPT`.
     Run { program: &'a str, script: &'a str },
+    /// `afresh PROGRAM SCRIPT`.
+    Afresh { program: &'a str, script: &'a str },
     /// `check PROGRAM`.
     Check { program: &'a str },
 }
@@ -22,26 +24,37 @@ fn names_file(word: &str) -> bool
     }
 }
 
+/// What a word asks for with a program and a script.
+fn over_script<'a>(word: &str, program: &'a str, script: &'a str) -> Option<Request<'a>>
+    ensures { option_map told result ≡ over_script word.now program.now script.now }
+{
+    match word {
+        "run" => Some(Request::Run { program, script }),
+        "afresh" => Some(Request::Afresh { program, script }),
+        _ => None,
+    }
+}
+
+/// What a word asks for with a program alone.
+fn over_program<'a>(word: &str, program: &'a str) -> Option<Request<'a>>
+    ensures { option_map told result ≡ over_program word.now program.now }
+{
+    match word {
+        "check" => Some(Request::Check { program }),
+        _ => None,
+    }
+}
+
 /// What the words ask for, or none where they are no command.
 pub fn request_of(words: &[String]) -> Option<Request<'_>>
     ensures { option_map told result ≡ command_of (map string_bytes words.now) }
 {
     match words {
-        [word, program, script] => {
-            let (program, script) = (program.as_str(), script.as_str());
-            if word.as_str() == "run" && names_file(program) && names_file(script) {
-                Some(Request::Run { program, script })
-            } else {
-                None
-            }
+        [word, program, script] if names_file(program.as_str()) && names_file(script.as_str()) => {
+            over_script(word.as_str(), program.as_str(), script.as_str())
         }
-        [word, program] => {
-            let program = program.as_str();
-            if word.as_str() == "check" && names_file(program) {
-                Some(Request::Check { program })
-            } else {
-                None
-            }
+        [word, program] if names_file(program.as_str()) => {
+            over_program(word.as_str(), program.as_str())
         }
         _ => None,
     }

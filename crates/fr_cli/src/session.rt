@@ -8,12 +8,12 @@ ghost use Rattle.fr_show.specs.Course.{Course, joined, after, stopped};
 ghost use Rattle.fr_first.specs.Course.{onward, course_from, over_script, run_course};
 ghost use Rattle.fr_sums.specs.Script.{script_of};
 ghost use Rattle.fr_engine.specs.Running.{state_of, Goes};
-ghost use Rattle.fr_cli.specs.Ends.{EndsThere, StopSays};
+ghost use Rattle.fr_show.specs.Ends.{EndsThere, StopSays};
 
 use fr_engine::{Engine, EngineStop};
 use fr_first::read_script;
 use fr_io::{ReadStop, Shelf, Sink, read_up_to, write_all};
-use fr_show::{LineKind, Stop};
+use fr_show::{ScriptKind, Stop};
 use fr_sums::{Inputs, Program};
 use sqlite_items::Items;
 use std::alloc::Global;
@@ -101,7 +101,7 @@ fn run_script<S: Shelf, O: Sink>(
         Ok(Some(instants)) => instants,
         Ok(None) => return Err(Stop::Script {
             line: 0,
-            kind: LineKind::Unbuilt,
+            kind: ScriptKind::Unbuilt,
         }),
         Err(e) => return Err(Stop::Memory(e)),
     };

@@ -2,10 +2,11 @@ ghost use Rattle.std.specs.Prelude.{◌≡◌, ◌≤◌, ◌++◌, OnOk, OnErr,
 ghost use Rattle.std.specs.Io.KnownBytes.{Appends};
 ghost use Rattle.fr_io.specs.Faults.{Rose};
 ghost use Rattle.fr_io.specs.Files.{AppendsSome};
-ghost use Rattle.fr_cli.specs.Lines.{status_of, line_of, refusal_end, program_word, line_word, Tells};
+ghost use Rattle.fr_cli.specs.Lines.{status_of, line_of, refusal_end, program_word, line_word, script_word, Tells};
 
 use fr_io::{Failed, Sink, write_all};
-use fr_show::{LineKind, ProgramKind, Stop};
+use fr_script::LineKind;
+use fr_show::{ProgramKind, ScriptKind, Stop};
 use itoa::Buffer;
 
 /// The exit status of a stop.
@@ -49,7 +50,7 @@ fn write_line<E: Sink>(stop: &Stop, err: &mut E) -> Result<(), Failed>
             )
         }
         Stop::Script { line, kind } => {
-            write_place(err, b"script refused at line ", *line, line_end(*kind))
+            write_place(err, b"script refused at line ", *line, script_end(*kind))
         }
         Stop::Evaluation(time) => write_place(err, b"evaluation error at time ", *time, b"\n"),
         Stop::Usage => write_all(err, b"usage\n"),
@@ -104,10 +105,26 @@ fn program_end(kind: ProgramKind) -> &'static [u8]
 }
 
 /// How the line of a refused script ends.
+fn script_end(kind: ScriptKind) -> &'static [u8]
+    ensures { result.now ≡ refusal_end (script_word kind) }
+{
+    match kind {
+        ScriptKind::Line(kind) => line_end(kind),
+        ScriptKind::Unbuilt => b": unbuilt\n",
+    }
+}
+
+/// How the line of a script refused at a line ends.
 fn line_end(kind: LineKind) -> &'static [u8]
     ensures { result.now ≡ refusal_end (line_word kind) }
 {
     match kind {
-        LineKind::Unbuilt => b": unbuilt\n",
+        LineKind::Grammar => b": grammar\n",
+        LineKind::Name => b": name\n",
+        LineKind::Twice => b": twice\n",
+        LineKind::Time => b": time\n",
+        LineKind::Value => b": value\n",
+        LineKind::Long => b": long\n",
+        LineKind::Many => b": many\n",
     }
 }

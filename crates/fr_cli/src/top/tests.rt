@@ -4,12 +4,12 @@ use std::alloc::{AllocError, Global};
 use std::test::Fail;
 
 /// A run of two files in memory, what it writes, and how it ends.
-struct Case {
-    program: &'static str,
-    script: &'static str,
-    out: &'static str,
-    status: u8,
-    line: &'static str,
+pub(super) struct Case {
+    pub(super) program: &'static str,
+    pub(super) script: &'static str,
+    pub(super) out: &'static str,
+    pub(super) status: u8,
+    pub(super) line: &'static str,
 }
 
 const SUM: &str = "(define-input x 1)(show y (+ x 1))";
@@ -131,14 +131,14 @@ const CASES: [Case; 16] = [
 
 /// What a run left: its status, and the bytes of `out` and of `err`.
 #[derive(Drop)]
-struct Left {
-    status: u8,
-    out: MemSink,
-    err: MemSink,
+pub(super) struct Left {
+    pub(super) status: u8,
+    pub(super) out: MemSink,
+    pub(super) err: MemSink,
 }
 
 /// Runs `words` over a shelf with the files `p` and `s`. The calls with these numbers fail.
-fn run_with(
+pub(super) fn run_with(
     alloc: Global,
     words: &[&str],
     case: &Case,
@@ -194,11 +194,13 @@ fn programs_print_what_changes_up_to_their_stop(rt: HostRuntime) -> Result<(), F
 }
 
 /// Words that are no command.
-const NO_COMMANDS: [&[&str]; 10] = [
+const NO_COMMANDS: [&[&str]; 12] = [
     &[],
     &["run", "p"],
     &["run", "p", "s", "t"],
     &["ran", "p", "s"],
+    &["afresh", "p"],
+    &["afresh", "p", "-s"],
     &["run", "-p", "s"],
     &["run", "p", "-"],
     &["run", "--", "p"],

@@ -1,6 +1,6 @@
 use Rattle.std.proofs.Common.{ap, List, ℕ, None, Err}
 use Rattle.fr_first.specs.Course.{run_course}
-use Rattle.fr_cli.specs.Ends.{EndsThere, StopSays}
+use Rattle.fr_show.specs.Ends.{EndsThere, StopSays}
 use Rattle.fr_cli.proofs.Sessions.{at_zero, told_all, told_map, after_first, stops_first, rest_ends, rest_stops}
 use Rattle.fr_cli.proofs.session.session.Goals as goal
 

@@ -11,11 +11,11 @@ returns-in-Program-clause-err g c = rw c.in-Program.is (rw c.program_end.ensures
 
 pub returns-in-Script-clause-ok : goal.returns-in-Script-clause-ok
 unfolding line_of
-returns-in-Script-clause-ok g c = rw c.in-Script.is (rw c.line_end.ensures at c.write_place-in-Script.ensures.ok)
+returns-in-Script-clause-ok g c = rw c.in-Script.is (rw c.script_end.ensures at c.write_place-in-Script.ensures.ok)
 
 pub returns-in-Script-clause-err : goal.returns-in-Script-clause-err
 unfolding line_of
-returns-in-Script-clause-err g c = rw c.in-Script.is (rw c.line_end.ensures at c.write_place-in-Script.ensures.err)
+returns-in-Script-clause-err g c = rw c.in-Script.is (rw c.script_end.ensures at c.write_place-in-Script.ensures.err)
 
 pub returns-in-Evaluation-clause-ok : goal.returns-in-Evaluation-clause-ok
 unfolding line_of

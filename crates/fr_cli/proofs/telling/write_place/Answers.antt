@@ -2,7 +2,7 @@ use Rattle.std.proofs.Common.{◌++◌, ◌∙◌, decimal, List, ℕ, subst}
 use Rattle.std.specs.Io.KnownBytes.{Appends}
 use Rattle.fr_io.specs.Files.{AppendsSome}
 use Rattle.fr_io.proofs.Appending.{appends_more}
-use Rattle.fr_cli.proofs.Writing.{some_front, some_behind}
+use Rattle.fr_show.proofs.Writing.{some_front, some_behind}
 use Rattle.fr_cli.proofs.telling.write_place.Goals as goal
 
 pub returns-in-Err-write_all-clause-err : goal.returns-in-Err-write_all-clause-err

@@ -3,8 +3,9 @@ use Rattle.fr_show.specs.Accepted.{IsProgram}
 use Rattle.fr_show.specs.Course.{Course}
 use Rattle.fr_show.specs.Stops.{Tells}
 use Rattle.fr_show.specs.declared.stop.Stop.TheVariants.{Write}
-use Rattle.fr_cli.specs.Ends.{EndsThere, StopSays}
-use Rattle.fr_cli.proofs.Runs.{says_unaccepted, on_told, read_accepted}
+use Rattle.fr_show.specs.Ends.{EndsThere, StopSays}
+use Rattle.fr_show.proofs.Judged.{read_accepted}
+use Rattle.fr_cli.proofs.Runs.{says_unaccepted, on_told}
 use Rattle.fr_cli.proofs.top.check.Goals as goal
 
 pub returns-in-Err-clause-err : goal.returns-in-Err-clause-err

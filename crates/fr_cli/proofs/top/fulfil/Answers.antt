@@ -7,3 +7,7 @@ use Rattle.fr_cli.proofs.top.fulfil.Goals as goal
 pub returns-in-Ok-clause-to_end : goal.returns-in-Ok-clause-to_end
 returns-in-Ok-clause-to_end g c =
     subst (λ (r : Request). ReadsToEnd (Some (told r)) (g.S.Shelf.holds c.args.shelf.now) (g.S.Shelf.reached c.args.shelf.now) (g.S.Shelf.reached c.run.new.shelf)) (sym c.in-Run.is) c.in-Ok.ensures.to_end
+
+pub returns-in-Ok-afresh-clause-to_end : goal.returns-in-Ok-afresh-clause-to_end
+returns-in-Ok-afresh-clause-to_end g c =
+    subst (λ (r : Request). ReadsToEnd (Some (told r)) (g.S.Shelf.holds c.args.shelf.now) (g.S.Shelf.reached c.args.shelf.now) (g.S.Shelf.reached c.afresh.new.shelf)) (sym c.in-Afresh.is) c.in-Ok-afresh.ensures.to_end

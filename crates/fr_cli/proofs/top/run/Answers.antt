@@ -1,10 +1,11 @@
 use Rattle.std.proofs.Common.{List, ℕ, None, Some, Ok, subst, take}
 use Rattle.fr_show.specs.Course.{Course}
-use Rattle.fr_cli.specs.Ends.{EndsThere, StopSays}
+use Rattle.fr_show.specs.Ends.{EndsThere, StopSays}
 use Rattle.fr_first.specs.Sums.{Reads, IsVerdict as IsRunVerdict, course_of}
 use Rattle.fr_first.specs.Stops.{Tells}
-use Rattle.fr_cli.proofs.Courses.{nothing_whole}
-use Rattle.fr_cli.proofs.Runs.{run_judging, on_each, on_read, says_read, says_unrun, runs_on}
+use Rattle.fr_show.proofs.Courses.{nothing_whole}
+use Rattle.fr_show.proofs.Judged.{on_each, on_read, says_read}
+use Rattle.fr_cli.proofs.Runs.{run_judging, says_unrun, runs_on}
 use Rattle.fr_cli.proofs.top.run.Goals as goal
 
 pub returns-in-Err-Memory-clause-err : goal.returns-in-Err-Memory-clause-err
