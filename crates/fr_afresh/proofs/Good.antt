@@ -1,5 +1,5 @@
 -- An evaluation without an error gives a value that isn't Bad.
-use Rattle.std.proofs.Common.{◌≡◌, ℕ, zero, suc, ◌+◌, List, [], ◌∷◌, ◌++◌, Bool, true, false, Option, Some, None, Result, Ok, Err, refl, sym, length, slice_get, map, ap}
+use Rattle.std.proofs.Common.{◌≡◌, ℕ, zero, suc, ◌+◌, List, [], ◌∷◌, ◌++◌, Bool, true, false, Option, Some, None, Result, Ok, Err, refl, length, slice_get, map, ap}
 use Rattle.std.specs.Option.{option_or, option_map}
 use Rattle.fr_value.specs.declared.now.Now.{Now}
 use Rattle.fr_value.specs.declared.now.Bad.{Bad}
@@ -10,9 +10,8 @@ use Rattle.fr_core.specs.declared.kept.Kept.TheVariants as kept
 use Rattle.fr_core.specs.declared.program.Item.{Item}
 use Rattle.fr_core.specs.declared.program.Item.TheVariants as item
 use Rattle.fr_meaning.specs.Words.{Seen, Env, First, Done, under, own, plain, test_of}
-use Rattle.fr_meaning.specs.Primitives.{applied}
 use Rattle.fr_meaning.specs.Cells.{child, datum_cell, behind_datum, behind_payload}
-use Rattle.fr_meaning.specs.Evaluation.{World, Ev, Parts, Turns, eval_to, layer, parts, parts_only, loop_done, line_done, if_done, call_done, body_for, refusal_first, found, source_seen, join_part, no_parts}
+use Rattle.fr_meaning.specs.Evaluation.{World, Ev, Parts, eval_to, layer, parts, line_done, if_done, call_done, body_for, refusal_first, found, source_seen, join_part, no_parts}
 use Rattle.fr_meaning.specs.States.{Line, fed}
 use Rattle.fr_meaning.specs.Afresh.{items}
 use Rattle.fr_afresh.specs.Bodies.{all_good}

@@ -1,9 +1,8 @@
 -- An instant, as what was done tells of it.
-use Rattle.std.proofs.Common.{◌≡◌, ℕ, List, [], ◌∷◌, ◌++◌, Option, Some, None, Result, Ok, Err, refl, sym, ap, ◌∙◌, IfOk, IfErr, append-nil, map}
+use Rattle.std.proofs.Common.{◌≡◌, ℕ, List, [], Some, None, Result, Ok, Err, refl, sym, ap, ◌∙◌, IfOk, IfErr, append-nil}
 use Rattle.std.specs.Option.{option_or}
 use Rattle.std.specs.declared.alloc.AllocError.{AllocError}
 use Rattle.fr_value.specs.declared.value.Value.{Value}
-use Rattle.fr_value.specs.declared.now.Now.{Now}
 use Rattle.fr_core.specs.declared.inputs.Inputs.{Inputs}
 use Rattle.fr_core.specs.declared.kept.Kept.{Kept}
 use Rattle.fr_core.specs.declared.kept.Kept.TheVariants as kept

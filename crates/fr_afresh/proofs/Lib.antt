@@ -3,3 +3,4 @@ pub mod Handled
 pub mod SourceSteps
 pub mod Good
 pub mod Instants
+pub mod Walks

@@ -1,5 +1,5 @@
 -- The turns of a loop: those so far and those that are left are all turns.
-use Rattle.std.proofs.Common.{◌≡◌, ℕ, zero, suc, List, Option, Some, None, refl, ap, sym, ◌∙◌, ◌+◌, ◌-◌, ◌<◌, ◌≤◌, length, drop, get_or, add-one, drop-cons, true, arith}
+use Rattle.std.proofs.Common.{◌≡◌, ℕ, suc, List, Some, None, refl, sym, ◌∙◌, ◌+◌, ◌-◌, ◌<◌, length, drop, get_or, add-one, drop-cons, true, arith}
 use Rattle.std.specs.Option.{option_or}
 use Rattle.fr_value.specs.declared.value.Datum.{Datum}
 use Rattle.fr_value.specs.declared.value.Datum.TheVariants as datum

@@ -1,11 +1,11 @@
 -- Items that were evaluated so far, as code tells of them.
-use Rattle.std.specs.Prelude.{ℕ, ◌+◌, ◌-◌, List, [], ◌∷◌, ◌++◌, Option, Some, None, Ok, Err}
+use Rattle.std.specs.Prelude.{ℕ, List, [], ◌∷◌, ◌++◌, Option, Some, None, Ok, Err}
 use Rattle.std.specs.Option.{option_or, option_map}
 use Rattle.fr_value.specs.declared.now.Now.{Now}
 use Rattle.fr_core.specs.declared.core_form.Core.{Core}
 use Rattle.fr_core.specs.declared.kept.Kept.{Kept}
 use Rattle.fr_core.specs.declared.program.Item.{Item}
-use Rattle.fr_meaning.specs.Words.{Seen, Env, First, under}
+use Rattle.fr_meaning.specs.Words.{Seen, under}
 use Rattle.fr_meaning.specs.Cells.{child}
 use Rattle.fr_meaning.specs.Evaluation.{Ev}
 use Rattle.fr_meaning.specs.Afresh.{Evaluated, items}

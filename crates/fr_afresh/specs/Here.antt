@@ -1,7 +1,6 @@
 -- The evaluation of expressions at an instant, by what code has of the instant.
-use Rattle.std.specs.Prelude.{ℕ, List, [], ◌∷◌}
+use Rattle.std.specs.Prelude.{ℕ, [], ◌∷◌}
 use Rattle.fr_core.specs.declared.core_form.Core.{Core}
-use Rattle.fr_core.specs.declared.kept.Kept.TheVariants as kept
 use Rattle.fr_meaning.specs.Words.{Seen, Env, Done as Evaluated}
 use Rattle.fr_meaning.specs.Evaluation.{World, Ev, eval_to, body_with}
 use Rattle.fr_afresh.specs.declared.evaluation.At.{At}

@@ -1,10 +1,7 @@
 -- What code tells of a body that was evaluated.
-use Rattle.std.specs.Prelude.{◌≡◌, ℕ, List, Option, Some, None, Ok, Err}
-use Rattle.fr_value.specs.declared.now.Bad.{Bad}
-use Rattle.fr_meaning.specs.Words.{Seen, First}
+use Rattle.std.specs.Prelude.{◌≡◌, None}
 use Rattle.fr_meaning.specs.Afresh.{Evaluated}
 use Rattle.fr_afresh.specs.declared.bodies.Progress.{Progress}
-use Rattle.fr_afresh.specs.declared.running.AfreshStop.{AfreshStop}
 use Rattle.fr_afresh.specs.Bodies.{all_good}
 
 -- what was done tells of items that were evaluated

@@ -1,6 +1,7 @@
 //! The items of a program's body, one after the other.
-ghost use Rattle.std.specs.Prelude.{◌≡◌, ◌+◌, ℕ, List, [], ◌∷◌, ◌++◌, IfOk};
+ghost use Rattle.std.specs.Prelude.{◌≡◌, ◌≤◌, ◌+◌, ℕ, List, [], ◌∷◌, ◌++◌, IfOk};
 ghost use Rattle.fr_core.specs.declared.program.Item.{Item as BodyItem};
+ghost use Rattle.fr_core.specs.WellFormed.{AreNumbered};
 ghost use Rattle.fr_meaning.specs.Afresh.{items as all_items, sources_at, body};
 ghost use Rattle.fr_afresh.specs.Here.{here};
 ghost use Rattle.fr_afresh.specs.Bodies.{behind_define, behind_show, whole, unbegun, all_good};
@@ -158,7 +159,7 @@ pub fn good_values(alloc: Global, values: &[Seen]) -> Result<Option<Items<Now>>,
 }
 
 /// Evaluates a program's body at an instant, over the values of its inputs and what it kept. It fails where there is no
-/// memory, and where `source_values` does.
+/// memory; a program of more than 4,294,967,294 inputs and events has no room.
 pub fn eval_body(
     alloc: Global,
     program: &Program,
@@ -166,6 +167,8 @@ pub fn eval_body(
     kept: &Kept,
     inputs: &Inputs,
 ) -> Result<Progress, AllocError>
+    requires numbered { AreNumbered program.now }
+    requires time { inputs.now.time ≤ 9223372036854775807 }
     ensures told { IfOk result (λ p. Tells p (body program.now (sources_at program.now values.now inputs.now) kept.now)) }
     ensures clean { IfOk result (λ p. IsClean p) }
 {

@@ -6,5 +6,7 @@ mod evaluation;
 mod places;
 mod running;
 mod sources;
+#[cfg(test)]
+mod tests;
 
 pub use running::{Afresh, AfreshStop, FirstBad};

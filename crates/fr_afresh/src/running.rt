@@ -1,4 +1,5 @@
-ghost use Rattle.std.specs.Prelude.{◌≡◌, ◌<◌, length, slice_get, IfOk, IfErr, Some};
+ghost use Rattle.std.specs.Prelude.{◌≡◌, ◌<◌, ◌≤◌, length, slice_get, IfOk, IfErr, Some};
+ghost use Rattle.fr_core.specs.WellFormed.{IsWellFormed};
 ghost use Rattle.fr_meaning.specs.Afresh.{Instant, beginning, first_instant, instant as instant_after};
 ghost use Rattle.fr_afresh.specs.Stands.{program_of, state_of, shown_of, Leaves, ErrsBy};
 ghost use Rattle.fr_afresh.specs.Tells.{Tells, IsClean};
@@ -24,7 +25,7 @@ pub struct FirstBad {
 /// Why an instant wasn't evaluated to its end.
 #[derive(Drop)]
 pub enum AfreshStop {
-    /// There was no memory.
+    /// There was no memory; or the program has more than 4,294,967,294 inputs and events, which have no room.
     Memory(AllocError),
     /// The instant errs.
     First(FirstBad),
@@ -92,9 +93,11 @@ fn stand_behind(
 }
 
 impl Afresh {
-    /// Evaluates instant 0 of a program, which has time 0 and sets nothing. It fails with `First` exactly where that
-    /// instant errs, and with `Memory` where there is no memory.
+    /// Evaluates instant 0 of a program, which has time 0 and sets nothing. It fails with `First` only where that instant
+    /// errs, and is never Ok there; it fails with `Memory` where there is no memory. After an error nothing is left to go
+    /// on with.
     pub fn start(alloc: Global, program: Program, first: &Inputs) -> Result<Afresh, AfreshStop>
+        requires well_formed { IsWellFormed program }
         requires first { first.now ≡ first_instant }
         ensures ok { IfOk result (λ a. Leaves a program (instant_after program (beginning program) first_instant)) }
         ensures err { IfErr result (λ stop. ErrsBy stop 0 (instant_after program (beginning program) first_instant)) }
@@ -110,9 +113,12 @@ impl Afresh {
         before.instant(first)
     }
 
-    /// Evaluates the next instant, over what the last one kept. It fails with `First` exactly where that instant errs,
-    /// and with `Memory` where there is no memory.
+    /// Evaluates the next instant, over what the last one kept. Its time is at most 9,223,372,036,854,775,807, the greatest
+    /// integer of the language. It fails with `First` only where that instant errs, and
+    /// is never Ok there; it fails with `Memory` where there is no memory. After an error nothing is left to go on with.
     pub fn instant(self, inputs: &Inputs) -> Result<Afresh, AfreshStop>
+        requires well_formed { IsWellFormed (program_of self) }
+        requires time { inputs.now.time ≤ 9223372036854775807 }
         ensures ok { IfOk result (λ a. Leaves a (program_of self) (instant_after (program_of self) (state_of self) inputs.now)) }
         ensures err { IfErr result (λ stop. ErrsBy stop inputs.now.time (instant_after (program_of self) (state_of self) inputs.now)) }
     {
