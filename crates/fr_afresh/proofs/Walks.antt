@@ -1,5 +1,5 @@
 -- A walk over inputs in the order of their sources gives each source its value.
-use Rattle.std.proofs.Common.{◌≡◌, ℕ, zero, suc, List, [], ◌∷◌, ◌++◌, Some, None, true, false, refl, subst, ◌+◌, ◌-◌, ◌<◌, ◌≤◌, ◌==◌, drop, slice_get, append_assoc, arith}
+use Rattle.std.proofs.Common.{◌≡◌, ℕ, zero, suc, List, [], ◌∷◌, ◌++◌, None, true, false, refl, subst, ◌+◌, ◌-◌, ◌<◌, ◌≤◌, ◌==◌, drop, slice_get, append_assoc, arith}
 use Rattle.std.proofs.lemmas.Bool.{eqb-true, eqb-false, ne_eqb}
 use Rattle.std.proofs.lemmas.List.{drop-drop}
 use Rattle.std.proofs.lemmas.List.Elements.{Contains-append_left, Contains-append_right}
@@ -7,7 +7,7 @@ use Rattle.std.specs.List.{Contains}
 use Rattle.fr_value.specs.declared.value.Value.{Value}
 use Rattle.fr_value.specs.declared.now.Now.{Now}
 use Rattle.fr_core.specs.Sets.{value_in}
-use Rattle.fr_core.specs.WellFormed.{AllAbove, Rises, AreNumbered, input_sources, event_sources}
+use Rattle.fr_core.specs.WellFormed.{AllAbove, AreNumbered, input_sources, event_sources}
 use Rattle.fr_core.specs.declared.inputs.Entry.{Entry}
 use Rattle.fr_core.specs.declared.program.Input.{Input}
 use Rattle.fr_core.specs.declared.program.Program.{Program}

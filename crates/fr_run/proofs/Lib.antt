@@ -3,3 +3,4 @@ mod Readers
 mod Says
 mod Loops
 mod Wholes
+mod Times

@@ -106,6 +106,17 @@ fed_front r ss bytes file limit stands told long most is =
       enough = λ e. omega arith;
     }
 
+-- these bytes themselves, which are more than a script may have
+pub fed_itself : (r : ScriptReader) (ss : List Named) (bytes : List ℕ) → Stands r ss bytes 0 → is_told r ≡ false → 1099511627776 < length bytes → IsFed r ss bytes 0
+fed_itself r ss bytes stands told long = record {
+  fed = bytes;
+  behind = [];
+  parts = sym (append-nil bytes);
+  stands = stands;
+  follows = subst (λ (b : Bool). MayFollow b [] true) (sym told) tt;
+  enough = λ e. long;
+}
+
 -- a good script was read whole
 pub good_whole : (ss : List Named) (file : List ℕ) → bad_line ss file true ≡ None → take 1099511627777 file ≡ file
 good_whole ss file good = let short = good_is_short ss file true good in take_all 1099511627777 file (omega (arith, short))

@@ -18,6 +18,10 @@ pub record IsFed (r : ScriptReader) (ss : List Named) (script : List ℕ) (given
   pub follows : MayFollow (is_told r) behind true
   pub enough : is_told r ≡ false → 1099511627776 < length fed
 
+-- there is a script that it was fed so
+abbrev pub IsFedSome : ScriptReader → Type 0
+IsFedSome r = (ss : List Named) × (script : List ℕ) × (given : ℕ) × IsFed r ss script given
+
 -- the whole instants of a script behind so many
 abbrev pub ahead : List Named → List ℕ → ℕ → List Inputs
 ahead ss script given = drop given (whole ss script true)

@@ -2,6 +2,7 @@ ghost use Rattle.std.specs.Prelude.{◌≡◌, ◌≢◌, ◌≤◌, ℕ, List, 
 ghost use Rattle.std.specs.Io.KnownBytes.{Appends};
 ghost use Rattle.fr_io.specs.Faults.{Rose, NoneFalls};
 ghost use Rattle.fr_io.specs.Files.{ReachesFront};
+ghost use Rattle.fr_core.specs.WellFormed.{IsWellFormed};
 ghost use Rattle.fr_script.specs.Sources.{Named, sources};
 ghost use Rattle.fr_meaning.specs.Texts.{Shown, instant_text, next_each};
 ghost use Rattle.fr_meaning.specs.Afresh.{State, beginning, first_instant, instant as instant_after};
@@ -10,7 +11,7 @@ ghost use Rattle.fr_show.specs.Accepted.{IsVerdict, OnJudged, OnEachJudged};
 ghost use Rattle.fr_show.specs.Course.{Course};
 ghost use Rattle.fr_show.specs.Ends.{EndsThere, StopSays, SaysOn};
 ghost use Rattle.fr_show.specs.Output.{shows_of, onward, program_course, course_over};
-ghost use Rattle.fr_run.specs.Scripts.{IsFed};
+ghost use Rattle.fr_run.specs.Scripts.{IsFed, IsFedSome};
 ghost use Rattle.fr_run.specs.Runs.{AreShowsOf, seen_of, Wrote, CutShort, course_behind};
 ghost use Rattle.fr_run.specs.Stops.{unaccepted, unfinished};
 
@@ -96,6 +97,7 @@ fn begin<O: Sink>(
     shows: &mut Shows,
     out: &mut O,
 ) -> Result<Afresh, Stop>
+    requires well_formed { IsWellFormed program }
     requires one_each { AreShowsOf shows.old program }
     ensures ok { IfOk result (λ afresh. Wrote afresh program (instant_after program (beginning program) first_instant) 0 shows.old shows.new (O.written out.old) (O.written out.new)) }
     ensures err { IfErr result (λ stop. (rest : State → List Shown → Course) →
@@ -127,6 +129,8 @@ fn step<O: Sink>(
     shows: &mut Shows,
     out: &mut O,
 ) -> Result<Afresh, Stop>
+    requires well_formed { IsWellFormed (program_of afresh) }
+    requires time { inputs.now.time ≤ 9223372036854775807 }
     requires one_each { AreShowsOf shows.old (program_of afresh) }
     ensures ok { IfOk result (λ next. Wrote next (program_of afresh) (instant_after (program_of afresh) (state_of afresh) inputs.now) inputs.now.time shows.old shows.new (O.written out.old) (O.written out.new)) }
     ensures err { IfErr result (λ stop. (rest : State → List Shown → Course) →
@@ -154,7 +158,9 @@ fn run_on<O: Sink>(
     shows: &mut Shows,
     out: &mut O,
 ) -> Result<(), Stop>
+    requires well_formed { IsWellFormed (program_of afresh) }
     requires one_each { AreShowsOf shows.old (program_of afresh) }
+    requires fed { IsFedSome reader.old }
     ensures ok { OnOk result ((ss : List Named) (script : List ℕ) (given : ℕ) → IsFed reader.old ss script given →
         EndsThere None (course_behind (program_of afresh) ss script given (state_of afresh) shows.old) (O.written out.old) (O.written out.new)) }
     ensures err { IfErr result (λ stop. (ss : List Named) (script : List ℕ) (given : ℕ) → IsFed reader.old ss script given →
@@ -186,6 +192,7 @@ fn run_script<S: Shelf, O: Sink>(
     shelf: &mut S,
     out: &mut O,
 ) -> Result<(), Stop>
+    requires well_formed { IsWellFormed (program_of afresh) }
     requires one_each { AreShowsOf shows.old (program_of afresh) }
     ensures ok { OnOk result (IfSome (S.holds shelf.old script.now) (λ file.
         EndsThere None (course_behind (program_of afresh) (sources (program_of afresh)) file 0 (state_of afresh) shows.old) (O.written out.old) (O.written out.new))) }
@@ -223,6 +230,7 @@ fn run_program<S: Shelf, O: Sink>(
     shelf: &mut S,
     out: &mut O,
 ) -> Result<(), Stop>
+    requires well_formed { IsWellFormed program }
     ensures ok { OnOk result (IfSome (S.holds shelf.old script.now) (λ file. EndsThere None (program_course program file true) (O.written out.old) (O.written out.new))) }
     ensures err { IfErr result (λ stop. IfSome (S.holds shelf.old script.now) (λ file. StopSays stop (program_course program file true) (O.written out.old) (O.written out.new))) }
     ensures to_end { OnOk result (IfSome (S.holds shelf.old script.now) (λ file. ReachesFront (S.reached shelf.old script.now) (S.reached shelf.new script.now) (length file))) }

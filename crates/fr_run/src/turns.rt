@@ -20,7 +20,8 @@ pub(crate) fn reader_of(
     program: &Program,
     bytes: &[u8],
 ) -> Result<ScriptReader, AllocError>
-    ensures { IfOk result (λ reader. (file : List ℕ) → bytes.now ≡ take 1099511627777 file → IsFed reader (sources program.now) file 0) }
+    ensures file { IfOk result (λ reader. (file : List ℕ) → bytes.now ≡ take 1099511627777 file → IsFed reader (sources program.now) file 0) }
+    ensures fed { IfOk result (λ reader. IsFed reader (sources program.now) bytes.now 0) }
 {
     let mut reader = ScriptReader::new(alloc, program)?;
     reader.feed(bytes)?;

@@ -10,6 +10,7 @@ use Rattle.fr_show.specs.Output.{onward}
 use Rattle.fr_run.specs.Runs.{Wrote, course_behind}
 use Rattle.fr_run.proofs.Each.{next_length}
 use Rattle.fr_run.proofs.Loops.{Tells, none_done, one_done, all_done, ends_here, stops_here}
+use Rattle.fr_run.proofs.Times.{next_in_range}
 use Rattle.fr_run.proofs.session.run_on.Goals as goal
 
 pub instants-init : goal.instants-init
@@ -57,3 +58,11 @@ instants-preserved g c =
           (g.O.Sink.written c.args.out.now) (g.O.Sink.written c.instants.out) (g.O.Sink.written c.step.new.out) (λ now fed. tells ss script now fed) (c.instants.invariant.so_far ss script given h) wrote;
       counts = omega (arith, c.step.ensures.counts, c.instants.invariant.counts);
     }
+
+pub step-requires-clause-time : goal.step-requires-clause-time
+step-requires-clause-time g c =
+    let tells = subst (λ (o : Option Inputs). Tells c.instants.reader c.next_instant.new.reader o) c.in-Ok-Some.field-0-is c.in-Ok-Some.ensures.ok in
+    let fed = c.requires.fed in
+    let far = c.instants.invariant.so_far fed.0 fed.1 fed.2 fed.3 in
+    let gives = tells fed.0 fed.1 far.given far.fed in
+    next_in_range fed.0 fed.1 far.given c.in-Ok-Some.inputs _ gives.0

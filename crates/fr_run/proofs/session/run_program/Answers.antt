@@ -1,4 +1,5 @@
-use Rattle.std.proofs.Common.{List, ℕ, true, ap, subst, Err}
+use Rattle.std.proofs.Common.{List, ℕ, true, ap, subst, sym, Err}
+use Rattle.fr_core.specs.WellFormed.{IsWellFormed}
 use Rattle.fr_script.specs.Sources.{sources}
 use Rattle.fr_meaning.specs.Texts.{Shown}
 use Rattle.fr_meaning.specs.Afresh.{beginning, first_instant, instant}
@@ -10,11 +11,13 @@ use Rattle.fr_run.proofs.Each.{shows_after}
 use Rattle.fr_run.proofs.Wholes.{told_map, first_stops}
 use Rattle.fr_run.proofs.session.run_program.Goals as goal
 
-pub run_script-requires : goal.run_script-requires
-run_script-requires g c = record {
-  one_each = shows_after c.in-Ok-begin.afresh c.args.program (instant c.args.program (beginning c.args.program) first_instant) 0 c.in-Ok.shows c.begin.new.shows
-      (g.O.Sink.written c.args.out.now) (g.O.Sink.written c.begin.new.out) c.in-Ok-begin.ensures.ok c.in-Ok.ensures;
-}
+pub run_script-requires-clause-well_formed : goal.run_script-requires-clause-well_formed
+run_script-requires-clause-well_formed g c = subst IsWellFormed (sym c.in-Ok-begin.ensures.ok.leaves.program) c.requires.well_formed
+
+pub run_script-requires-clause-one_each : goal.run_script-requires-clause-one_each
+run_script-requires-clause-one_each g c =
+    shows_after c.in-Ok-begin.afresh c.args.program (instant c.args.program (beginning c.args.program) first_instant) 0 c.in-Ok.shows c.begin.new.shows
+    (g.O.Sink.written c.args.out.now) (g.O.Sink.written c.begin.new.out) c.in-Ok-begin.ensures.ok c.in-Ok.ensures
 
 pub returns-clause-err : goal.returns-clause-err
 returns-clause-err g c =

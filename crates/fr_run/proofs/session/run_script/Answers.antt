@@ -35,7 +35,7 @@ returns-in-Ok-run_on-clause-ok g c =
     let p = program_of c.args.afresh in
     told_map (g.S.Shelf.holds c.args.shelf.now c.args.script.now) (λ (file : List ℕ). c.in-Ok.bytes.items ≡ take 1099511627777 file)
     (λ (file : List ℕ). EndsThere None (course_behind p (sources p) file 0 (state_of c.args.afresh) c.args.shows.now) (g.O.Sink.written c.args.out.now) (g.O.Sink.written c.run_on.new.out))
-    (λ file is. c.in-Ok-run_on.ensures.ok (sources p) file 0 (fed_file c.in-Ok-reader_of.reader p c.program.result.now c.deref.result.now c.in-Ok.bytes.items file c.in-Ok-reader_of.ensures c.program.ensures c.deref.ensures.value is))
+    (λ file is. c.in-Ok-run_on.ensures.ok (sources p) file 0 (fed_file c.in-Ok-reader_of.reader p c.program.result.now c.deref.result.now c.in-Ok.bytes.items file c.in-Ok-reader_of.ensures.file c.program.ensures c.deref.ensures.value is))
     c.in-Ok.ensures.bytes
 
 pub returns-in-Ok-run_on-clause-to_end : goal.returns-in-Ok-run_on-clause-to_end
@@ -45,7 +45,7 @@ returns-in-Ok-run_on-clause-to_end g c =
     (λ (file : List ℕ). ReachesFront (g.S.Shelf.reached c.args.shelf.now c.args.script.now) (g.S.Shelf.reached c.read_up_to.new.shelf c.args.script.now) (length file))
     (λ file is.
     read_whole p (sources p) file c.in-Ok.bytes.items 0 (state_of c.args.afresh) c.args.shows.now (g.O.Sink.written c.args.out.now) (g.O.Sink.written c.run_on.new.out) _ _ is
-    (c.in-Ok-run_on.ensures.ok (sources p) file 0 (fed_file c.in-Ok-reader_of.reader p c.program.result.now c.deref.result.now c.in-Ok.bytes.items file c.in-Ok-reader_of.ensures c.program.ensures c.deref.ensures.value is))
+    (c.in-Ok-run_on.ensures.ok (sources p) file 0 (fed_file c.in-Ok-reader_of.reader p c.program.result.now c.deref.result.now c.in-Ok.bytes.items file c.in-Ok-reader_of.ensures.file c.program.ensures c.deref.ensures.value is))
     c.in-Ok.ensures.reached)
     c.in-Ok.ensures.bytes
 
@@ -54,5 +54,5 @@ returns-clause-err g c =
     let p = program_of c.args.afresh in
     told_map (g.S.Shelf.holds c.args.shelf.now c.args.script.now) (λ (file : List ℕ). c.in-Ok.bytes.items ≡ take 1099511627777 file)
     (λ (file : List ℕ). StopSays c.in-Err-run_on.stop (course_behind p (sources p) file 0 (state_of c.args.afresh) c.args.shows.now) (g.O.Sink.written c.args.out.now) (g.O.Sink.written c.run_on.new.out))
-    (λ file is. c.in-Err-run_on.ensures.err (sources p) file 0 (fed_file c.in-Ok-reader_of.reader p c.program.result.now c.deref.result.now c.in-Ok.bytes.items file c.in-Ok-reader_of.ensures c.program.ensures c.deref.ensures.value is))
+    (λ file is. c.in-Err-run_on.ensures.err (sources p) file 0 (fed_file c.in-Ok-reader_of.reader p c.program.result.now c.deref.result.now c.in-Ok.bytes.items file c.in-Ok-reader_of.ensures.file c.program.ensures c.deref.ensures.value is))
     c.in-Ok.ensures.bytes
