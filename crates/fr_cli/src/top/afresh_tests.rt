@@ -303,8 +303,18 @@ const RUNS: [Case; 27] = [
 fn every_program_runs_by_evaluation_afresh(rt: HostRuntime) -> Result<(), Fail> {
     for case in &RUNS {
         let left = run_with(rt.alloc(), &["afresh", "p", "s"], case, &[], &[], &[])?;
-        assert_eq!(rt; left.out.bytes(), case.out.as_bytes(), "of {}", case.program);
-        assert_eq!(rt; left.err.bytes(), case.line.as_bytes(), "of {}", case.program);
+        assert_eq!(rt;
+            left.out.bytes(),
+            case.out.as_bytes(),
+            "of {}",
+            case.program
+        );
+        assert_eq!(rt;
+            left.err.bytes(),
+            case.line.as_bytes(),
+            "of {}",
+            case.program
+        );
         assert_eq!(rt; left.status, case.status, "of {}", case.program);
     }
     Ok(())

@@ -25,4 +25,4 @@ returns-in-Err-clause-evaluation_error g c is =
 pub returns-in-Err-clause-complete : goal.returns-in-Err-clause-complete
 returns-in-Err-clause-complete g c read write =
     rw c.status.ensures (says_complete c.in-Err.stop (command_of (map string_bytes c.args.words.now)) (g.S.Shelf.holds c.args.shelf.now) _ _
-        (λ e. read (search rules)) (λ e. write (search rules)) c.in-Err.ensures.err)
+    (λ e. read (search rules)) (λ e. write (search rules)) c.in-Err.ensures.err)
