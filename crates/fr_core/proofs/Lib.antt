@@ -1,4 +1,5 @@
 pub mod Placed
+mod Halved
 pub mod Nestings
 pub mod Widths
 pub mod Scopes

@@ -42,28 +42,23 @@ pub struct Inputs {
     pub sets: Sets,
 }
 
-/// The number of entries whose sources come before a new one.
+/// The number of entries whose sources come before a new one, found by halving.
 fn place_of(entries: &[Entry], source: SrcId) -> usize
+    requires { AreRising entries.now }
     ensures { result ≡ place_in source entries.now }
 {
-    for (at, entry) in entries.iter().enumerate() {
-        if source.0 < entry.source.0 {
-            return at;
-        }
-    }
-    entries.len()
+    entries.partition_point(|entry| entry.source.0 <= source.0)
 }
 
-/// The value of the first entry for a source.
+/// The value of the entry for a source, found by halving.
 fn find(entries: &[Entry], source: SrcId) -> Option<&Value>
+    requires { AreRising entries.now }
     ensures { option_copied result ≡ value_in source entries.now }
 {
-    for entry in entries {
-        if entry.source.0 == source.0 {
-            return Some(&entry.value);
-        }
+    match entries.binary_search_by_key(&source.0, |entry| entry.source.0) {
+        Ok(at) => Some(&entries[at].value),
+        Err(_) => None,
     }
-    None
 }
 
 impl Sets {
