@@ -12,17 +12,17 @@ ghost use Rattle.fr_lines.specs.Begins.{begun_line};
 ghost use Rattle.fr_afresh.specs.Here.{here, fold_turn, repeat_turn};
 
 use crate::places::{
-    cut, forget, function_body, one_value, release, release_list, release_value, source_at,
-    two_values, variable_at,
+    cut, fed_values, forget, function_body, one_value, release, release_list, release_value,
+    source_at, two_values, variable_at,
 };
 use fr_core::{Core, Function, Kept};
 use fr_lines::{
     Around, Begun, Done, First, One, Parts, Seen, Turns, Two, apply_primitive, begin_collect_b,
     begin_collect_e, begin_filter, begin_map, behind_parts, branch_kept, branched, changes_done,
-    count_of, delay_done, delay_e_done, either, end_handled, fed_value, feedback_behind, hold_done,
-    item_at, kept_behind_datum, kept_behind_payload, kept_datum, kept_part, leaf_of, line_behind,
-    list_of, merge_done, once_done, one_of, parts_alone, refused_turns, test_in, too_deep,
-    turns_behind, two_of, under_part, untested,
+    count_of, delay_done, delay_e_done, either, end_handled, feedback_behind, hold_done, item_at,
+    kept_behind_datum, kept_behind_payload, kept_datum, kept_part, leaf_of, line_behind, list_of,
+    merge_done, once_done, one_of, parts_alone, refused_turns, test_in, too_deep, turns_behind,
+    two_of, under_part, untested,
 };
 use fr_value::{Bad, List, Now, Primitive};
 use sqlite_items::Items;
@@ -731,8 +731,7 @@ fn eval_feedback(
 {
     let before = kept_behind_datum(kept);
     let started = eval(alloc, at, left, env, init, kept_part(before, 0))?;
-    let fed = fed_value(kept_datum(kept), &started.value)?;
-    let args = one_value(alloc, fed)?;
+    let args = fed_values(alloc, kept_datum(kept), &started.value)?;
     let done = eval_with(alloc, at, left, env, body, args, kept_part(before, 1))?;
     let two = two_of(alloc, started, done)?;
     feedback_behind(alloc, kept, two)

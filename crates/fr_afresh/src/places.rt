@@ -2,10 +2,11 @@
 ghost use Rattle.std.specs.Prelude.{◌≡◌, ◌≤◌, ◌∷◌, [], IfOk, length, slice_get, take};
 ghost use Rattle.std.specs.Option.{option_copied};
 ghost use Rattle.fr_meaning.specs.Evaluation.{found, source_seen, body_for};
+ghost use Rattle.fr_meaning.specs.States.{fed};
 
 use fr_core::{Core, Function, Kept};
-use fr_lines::{Seen, share_seen};
-use fr_value::{Bad, List, Now};
+use fr_lines::{Seen, fed_value, share_seen};
+use fr_value::{Bad, List, Now, Value};
 use sqlite_items::Items;
 use std::alloc::{AllocError, Global};
 
@@ -82,6 +83,18 @@ pub fn one_value(alloc: Global, a: Seen) -> Result<Items<Seen>, AllocError>
     let mut values = Items::new(alloc);
     values.push(a)?;
     Ok(values)
+}
+
+/// The value of the variable of a `feedback`: the kept datum, else that of its first part. It fails only where there is no
+/// memory.
+pub fn fed_values(
+    alloc: Global,
+    cell: Option<&Value>,
+    first: &Seen,
+) -> Result<Items<Seen>, AllocError>
+    ensures { IfOk result (λ xs. xs ≡ fed (option_copied cell.entry) first.now ∷ []) }
+{
+    one_value(alloc, fed_value(cell, first)?)
 }
 
 /// The values of two variables. It fails only where there is no memory.

@@ -8,7 +8,7 @@ use Rattle.fr_show.specs.declared.acceptance.AcceptStop.TheVariants.{Refused, Me
 use Rattle.fr_core.specs.declared.program.Program.{Program as Core}
 use Rattle.fr_show.specs.Accepted.{IsProgram, Verdict, IsVerdict, OnJudged, OnEachJudged}
 use Rattle.fr_show.specs.Course.{Course, stopped}
-use Rattle.fr_show.specs.Stops.{Tells}
+use Rattle.fr_show.specs.Stops.{Tells, unaccepted}
 use Rattle.fr_show.proofs.Judged.{Judging, text_judging, on_each, on_read, says_read}
 use Rattle.fr_sums.specs.declared.program.Program.{Program as Source}
 use Rattle.fr_first.specs.Course.{run_course}
@@ -17,7 +17,6 @@ use Rattle.fr_first.specs.Stops.{Tells as TellsRun}
 use Rattle.fr_first.proofs.Verdicts.{judged_front as run_front, verdict_is_one as run_is_one}
 use Rattle.fr_cli.specs.Command.{checked, IsAmong}
 use Rattle.fr_cli.specs.Lines.{status_of}
-use Rattle.fr_cli.specs.Told.{unaccepted}
 use Rattle.fr_show.specs.Ends.{StopSays, SaysOn}
 use Rattle.fr_show.proofs.Courses.{appends_nothing, nothing_whole}
 

@@ -7,7 +7,7 @@ ghost use Rattle.fr_first.specs.Sums.{IsVerdict as IsRunVerdict, course_of};
 ghost use Rattle.fr_show.specs.Course.{joined};
 ghost use Rattle.fr_show.specs.Output.{course_over};
 ghost use Rattle.fr_cli.specs.Command.{command_of, checked, OnCommand, OnEachCommand, OnWords, OnEachWords, files_in, files_of, AnyRose, ReadsToEnd, IsAmong, Answers, IsQuiet};
-ghost use Rattle.fr_cli.specs.Told.{told, unaccepted};
+ghost use Rattle.fr_cli.specs.Told.{told};
 ghost use Rattle.fr_show.specs.Ends.{EndsThere, SaysOn, AppendsWhole, RefusesProgram, RefusesScript, Errs};
 ghost use Rattle.fr_cli.specs.Lines.{status_of, status_of_end, Stopped};
 
@@ -17,18 +17,8 @@ use crate::telling::{status, tell};
 use fr_first::accept_sums;
 use fr_io::{ReadStop, Shelf, Sink, read_up_to, write_all};
 use fr_run::afresh_session;
-use fr_show::{AcceptStop, PROGRAM_LIMIT, Stop, accept};
+use fr_show::{PROGRAM_LIMIT, Stop, accept};
 use std::alloc::Global;
-
-/// The stop of a program that isn't accepted.
-fn stop_of(stop: AcceptStop) -> Stop
-    ensures { result ≡ unaccepted stop }
-{
-    match stop {
-        AcceptStop::Memory(e) => Stop::Memory(e),
-        AcceptStop::Refused { form, kind } => Stop::Program { form, kind },
-    }
-}
 
 /// Reads and judges the program, and runs it over the script.
 fn run<S: Shelf, O: Sink>(
@@ -54,7 +44,7 @@ fn run<S: Shelf, O: Sink>(
     };
     let program = match accept_sums(alloc, &bytes) {
         Ok(program) => program,
-        Err(stop) => return Err(stop_of(stop)),
+        Err(stop) => return Err(stop.into_stop()),
     };
     match session(alloc, program, script, shelf, out) {
         Ok(()) => Ok(()),
@@ -112,7 +102,7 @@ fn check<S: Shelf, O: Sink>(
     };
     match accept(alloc, &text) {
         Ok(_program) => {}
-        Err(stop) => return Err(stop_of(stop)),
+        Err(stop) => return Err(stop.into_stop()),
     }
     match write_all(out, b"accepted\n") {
         Ok(()) => Ok(()),

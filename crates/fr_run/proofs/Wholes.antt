@@ -26,7 +26,7 @@ use Rattle.fr_show.proofs.Courses.{appends_nothing, appends_one, ends_after, who
 use Rattle.fr_show.proofs.Judged.{text_judging, on_each, says_judged}
 use Rattle.fr_run.specs.Scripts.{IsFed}
 use Rattle.fr_run.specs.Runs.{Wrote, course_behind}
-use Rattle.fr_run.specs.Stops.{unaccepted}
+use Rattle.fr_show.specs.Stops.{unaccepted}
 use Rattle.fr_run.proofs.Says.{onward_clean}
 use Rattle.fr_run.proofs.Readers.{good_whole}
 

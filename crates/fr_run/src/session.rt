@@ -13,14 +13,14 @@ ghost use Rattle.fr_show.specs.Ends.{EndsThere, StopSays, SaysOn};
 ghost use Rattle.fr_show.specs.Output.{shows_of, onward, program_course, course_over};
 ghost use Rattle.fr_run.specs.Scripts.{IsFed, IsFedSome};
 ghost use Rattle.fr_run.specs.Runs.{AreShowsOf, seen_of, Wrote, CutShort, course_behind};
-ghost use Rattle.fr_run.specs.Stops.{unaccepted, unfinished};
+ghost use Rattle.fr_run.specs.Stops.{unfinished};
 
 use crate::turns::{SCRIPT_LIMIT, next_instant, reader_of};
 use fr_afresh::{Afresh, AfreshStop};
 use fr_core::{Inputs, Program, Sets};
 use fr_io::{ReadStop, Shelf, Sink, read_up_to, write_all};
 use fr_script::ScriptReader;
-use fr_show::{AcceptStop, Shows, Stop, accept};
+use fr_show::{Shows, Stop, accept};
 use fr_value::Now;
 use std::alloc::{AllocError, Global};
 
@@ -255,19 +255,6 @@ fn run_program<S: Shelf, O: Sink>(
     }
 }
 
-/// The stop of a program that isn't accepted.
-fn refusal_of(stop: AcceptStop) -> Stop
-    ensures value { result ≡ unaccepted stop }
-    ensures no_read { result ≢ Stop.Read }
-    ensures no_write { result ≢ Stop.Write }
-    ensures no_usage { result ≢ Stop.Usage }
-{
-    match stop {
-        AcceptStop::Memory(e) => Stop::Memory(e),
-        AcceptStop::Refused { form, kind } => Stop::Program { form, kind },
-    }
-}
-
 /// Accepts the program that a text is, and runs it over a script by evaluating the whole of it afresh at each instant.
 ///
 /// `program` is the text, or its first bytes where they are more than 1,048,576. Instant 0 is run and its text written
@@ -296,7 +283,7 @@ pub fn afresh_session<S: Shelf, O: Sink>(
 {
     let program = match accept(alloc, program) {
         Ok(program) => program,
-        Err(stop) => return Err(refusal_of(stop)),
+        Err(stop) => return Err(stop.into_stop()),
     };
     match run_program(alloc, program, script, shelf, out) {
         Ok(()) => Ok(()),

@@ -1,11 +1,12 @@
-ghost use Rattle.std.specs.Prelude.{◌≡◌, ◌≤◌, ◌*◌, length, map, IfOk, IfErr};
+ghost use Rattle.std.specs.Prelude.{◌≡◌, ◌≢◌, ◌≤◌, ◌*◌, length, map, IfOk, IfErr};
 ghost use Rattle.fr_value.specs.Data.{data_of, datum_size, total};
 ghost use Rattle.fr_core.specs.WellFormed.{IsWellFormed};
 ghost use Rattle.fr_show.specs.Accepted.{IsForms, IsProgram, IsVerdict};
-ghost use Rattle.fr_show.specs.Stops.{Tells, kind_of};
+ghost use Rattle.fr_show.specs.Stops.{Tells, kind_of, unaccepted};
 ghost use Rattle.fr_show.specs.declared.acceptance.AcceptStop.TheVariants as AcceptStop;
+ghost use Rattle.fr_show.specs.declared.stop.Stop.TheVariants as Stop;
 
-use crate::stop::ProgramKind;
+use crate::stop::{ProgramKind, Stop};
 use fr_core::Program;
 use fr_expand::{ExpandStop, Kind, expand};
 use fr_reader::{ReadStop, read_all};
@@ -32,6 +33,21 @@ impl From<AllocError> for AcceptStop {
 
     fn from(e: AllocError) -> AcceptStop {
         AcceptStop::Memory(e)
+    }
+}
+
+impl AcceptStop {
+    /// The stop of a command whose program isn't accepted.
+    pub fn into_stop(self) -> Stop
+        ensures value { result ≡ unaccepted self }
+        ensures no_read { result ≢ Stop.Read }
+        ensures no_write { result ≢ Stop.Write }
+        ensures no_usage { result ≢ Stop.Usage }
+    {
+        match self {
+            AcceptStop::Memory(e) => Stop::Memory(e),
+            AcceptStop::Refused { form, kind } => Stop::Program { form, kind },
+        }
     }
 }
 

@@ -11,7 +11,7 @@ use Rattle.fr_cli.proofs.top.check.Goals as goal
 pub returns-in-Err-clause-err : goal.returns-in-Err-clause-err
 returns-in-Err-clause-err g c =
     let told = subst (λ (b : List ℕ). Tells b c.in-Err.stop) c.deref.ensures.value c.in-Err.ensures.refused in
-    rw c.stop_of.ensures (says_unaccepted (g.S.Shelf.holds c.args.shelf.now c.args.program.now) c.in-Ok.text.items c.in-Err.stop (g.O.Sink.written c.args.out.now) c.in-Ok.ensures.bytes told)
+    rw c.into_stop.ensures.value (says_unaccepted (g.S.Shelf.holds c.args.shelf.now c.args.program.now) c.in-Ok.text.items c.in-Err.stop (g.O.Sink.written c.args.out.now) c.in-Ok.ensures.bytes told)
 
 pub returns-in-Ok-write_all-clause-ok : goal.returns-in-Ok-write_all-clause-ok
 returns-in-Ok-write_all-clause-ok g c =

@@ -20,7 +20,7 @@ pub returns-in-Err-clause-err : goal.returns-in-Err-clause-err
 returns-in-Err-clause-err g c =
     let told = subst (λ (b : List ℕ). Tells b c.in-Err.stop) c.deref.ensures.value c.in-Err.ensures.refused in
     let says = says_unrun (g.S.Shelf.holds c.args.shelf.now c.args.program.now) (g.S.Shelf.holds c.args.shelf.now c.args.script.now) c.in-Ok.bytes.items c.in-Err.stop (g.O.Sink.written c.args.out.now) c.in-Ok.ensures.bytes told in
-    rw c.stop_of.ensures says
+    rw c.into_stop.ensures.value says
 
 pub returns-in-Ok-session-clause-ok : goal.returns-in-Ok-session-clause-ok
 returns-in-Ok-session-clause-ok g c =

@@ -9,7 +9,7 @@ use Rattle.fr_run.proofs.session.afresh_session.Goals as goal
 
 pub returns-in-Err-clause-err : goal.returns-in-Err-clause-err
 returns-in-Err-clause-err g c =
-    rw c.refusal_of.ensures.value (says_unaccepted c.args.program.now (g.S.Shelf.holds c.args.shelf.now c.args.script.now) c.in-Err.stop (g.O.Sink.written c.args.out.now) c.in-Err.ensures.refused)
+    rw c.into_stop.ensures.value (says_unaccepted c.args.program.now (g.S.Shelf.holds c.args.shelf.now c.args.script.now) c.in-Err.stop (g.O.Sink.written c.args.out.now) c.in-Err.ensures.refused)
 
 pub returns-in-Ok-run_program-clause-ok : goal.returns-in-Ok-run_program-clause-ok
 returns-in-Ok-run_program-clause-ok g c =
