@@ -1,5 +1,5 @@
--- An atom is text.
-use Rattle.std.specs.Prelude.{ℕ, suc, zero, Bool, true, false, ◌<◌, ◌≤◌, length, ◌≡◌, List, [], ◌∷◌}
+-- Atoms are text.
+use Rattle.std.specs.Prelude.{ℕ, suc, zero, Bool, true, false, ◌<◌, ◌≡◌, List, [], ◌∷◌}
 use Rattle.std.proofs.Common.{refl, inl, inr, arith}
 use Rattle.std.specs.Str.{IsUtf8, IsAscii}
 use Rattle.std.specs.Str.Parse.{without_leading_sign, signed_digits_value}
@@ -9,7 +9,7 @@ use Rattle.std.proofs.lemmas.Bool.Decides.{eqb_tells}
 use Rattle.std.proofs.lemmas.Str.{IsUtf8-from_ascii}
 use Rattle.fr_value.specs.declared.value.Datum.{Datum}
 use Rattle.fr_value.specs.declared.value.Datum.TheVariants as datum
-use Rattle.fr_value.specs.Grammar.{Where, IsAtom, IsInteger, is_name, is_true, is_false, is_symbol_byte, are_symbol_bytes}
+use Rattle.fr_value.specs.Grammar.{IsAtom, IsInteger, is_name, is_true, is_false, is_symbol_byte, are_symbol_bytes}
 
 symbol_small : (b : ℕ) → is_symbol_byte b ≡ true → b < 128
 symbol_small b h = grind (arith, h)
@@ -40,13 +40,17 @@ integer_ascii (b ∷ bs) h = elim (eqb_tells b 45) as (λ _. IsAscii (b ∷ bs))
   ]
 ]
 
-by_name : (b : Bool) {P Q R : Type 0} → Where b P Q → (b ≡ true → P → R) → (b ≡ false → Q → R) → R
-by_name true h f g = f refl h
-by_name false h f g = g refl h
+-- what isn't text is no symbol
+pub no_name : (bs : List ℕ) → (IsUtf8 bs → ⊥) → is_name bs ≡ false
+no_name bs h = either (is_name bs) (λ k. h (IsUtf8-from_ascii bs (name_ascii bs k)))
+  where
+    either : (b : Bool) → (b ≡ true → ⊥) → b ≡ false
+    either true k = absurd (k refl)
+    either false k = refl
 
-pub atom_text : (a : List ℕ) (d : Datum) → is_true a ≡ false → is_false a ≡ false → IsAtom a d → IsUtf8 a
+-- what is no truth value and no symbol is an integer
+pub atom_text : (a : List ℕ) (d : Datum) → is_true a ≡ false → is_false a ≡ false → is_name a ≡ false → IsAtom a d → IsUtf8 a
 unfolding IsAtom
-atom_text a d t f h =
-    let l : Where (is_name a) ((d ≡ datum.Sym a) × (length a ≤ 1048575)) (IsInteger a × (d ≡ datum.Int (signed_digits_value 10 a))) = rw (t, f) at h in
-    IsUtf8-from_ascii a (by_name (is_name a) {P = (d ≡ datum.Sym a) × (length a ≤ 1048575)} {Q = IsInteger a × (d ≡ datum.Int (signed_digits_value 10 a))} l
-    (λ n p. name_ascii a n) (λ n p. integer_ascii a (IsAscii-from_digits (without_leading_sign a) p.0.0.1)))
+atom_text a d t f n h =
+    let l : IsInteger a × (d ≡ datum.Int (signed_digits_value 10 a)) = rw (t, f, n) at h in
+    IsUtf8-from_ascii a (integer_ascii a (IsAscii-from_digits (without_leading_sign a) l.0.0.1))

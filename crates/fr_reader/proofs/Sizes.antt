@@ -1,8 +1,9 @@
 -- Sizes against the number of bytes.
 use Rattle.std.specs.Prelude.{ℕ, suc, zero, Bool, true, false, ◌==◌, ◌+◌, ◌*◌, ◌≤◌, ◌≡◌, cond, List, [], ◌∷◌, map, length, Option, Some, None}
 use Rattle.std.specs.Option.{option_map, option_and_then}
-use Rattle.std.proofs.Common.{refl, inl, inr, sym, ap, subst, arith}
+use Rattle.std.proofs.Common.{refl, inl, inr, ap, arith}
 use Rattle.std.proofs.lemmas.Bool.Decides.{eqb_tells}
+use Rattle.std.proofs.lemmas.Option.{none-some}
 use Rattle.fr_value.proofs.Meet.{same_some, no_atom}
 use Rattle.std.specs.Str.Parse.{signed_digits_value}
 use Rattle.fr_value.specs.declared.value.Datum.{Datum}
@@ -26,7 +27,7 @@ skip_less false (b ∷ bs) = elim (is_blank b) as (λ x. length (cond x (skip fa
   | false ↦ elim (b == 59) as (λ x. length (cond x (skip true bs) (b ∷ bs)) ≤ length (b ∷ bs)) [ true ↦ omega (arith, skip_less true bs) | false ↦ omega arith ]
 ]
 
-gap_less : (t : List ℕ) → length (past_gap t) ≤ length t
+pub gap_less : (t : List ℕ) → length (past_gap t) ≤ length t
 unfolding past_gap
 gap_less t = skip_less false t
 
@@ -34,40 +35,29 @@ items_small : (one : Begins) → IsSmall one → (t : List ℕ) (ds : List Datum
 items_small one u t [] r h = omega (arith, gap_less t, ap length h)
 items_small one u t (d ∷ ds) r h = omega (arith, gap_less t, u (past_gap t) d h.0 h.1, items_small one u h.0 ds r h.2)
 
-atom_cut : (t : List ℕ) → length (atom t) + length (past_atom t) ≡ length t
+pub atom_cut : (t : List ℕ) → length (atom t) + length (past_atom t) ≡ length t
 atom_cut [] = refl
 atom_cut (b ∷ bs) = elim (is_delimiter b) as (λ x. length (cond x [] (b ∷ atom bs)) + length (cond x (b ∷ bs) (past_atom bs)) ≡ length (b ∷ bs)) [
   | true ↦ omega arith
   | false ↦ omega (arith, atom_cut bs)
 ]
 
-HasSome : {A : Type 0} → Option A → Type 0
-HasSome None = ⊥
-HasSome (Some a) = Unit {0}
+front_cut : (b n : ℕ) (o : Option (List ℕ × List ℕ)) (x : List ℕ × List ℕ) → ((y : List ℕ × List ℕ) → o ≡ Some y → length y.0 + length y.1 + 1 ≤ n) → option_map (front b) o ≡ Some x → length x.0 + length x.1 + 1 ≤ suc n
+front_cut b n None x less k = absurd (none-some x k)
+front_cut b n (Some y) x less k = omega (arith, less y refl, ap (λ p. length p.0) (same_some (front b y) x k), ap (λ p. length p.1) (same_some (front b y) x k))
 
-mapped : {A B : Type 0} (f : A → B) (o : Option A) (x : B) → option_map f o ≡ Some x → (y : A) × (o ≡ Some y) × (x ≡ f y)
-unfolding HasSome
-mapped f None x h = absurd (subst HasSome (sym h) tt)
-mapped f (Some y) x h = (y, refl, sym (same_some (f y) x h))
-
-string_cut : (e : Bool) (t : List ℕ) (x : List ℕ × List ℕ) → string e t ≡ Some x → length x.0 + length x.1 + 1 ≤ length t
-unfolding HasSome
-string_cut e [] x h = absurd (subst HasSome (sym h) tt)
+pub string_cut : (e : Bool) (t : List ℕ) (x : List ℕ × List ℕ) → string e t ≡ Some x → length x.0 + length x.1 + 1 ≤ length t
+string_cut e [] x h = absurd (none-some x h)
 string_cut true (b ∷ bs) x h = escaped (string_cut false bs) (escape b) h
   where
     escaped : ((y : List ℕ × List ℕ) → string false bs ≡ Some y → length y.0 + length y.1 + 1 ≤ length bs) → (o : Option ℕ) → option_and_then (λ c. option_map (front c) (string false bs)) o ≡ Some x → length x.0 + length x.1 + 1 ≤ length (b ∷ bs)
-    escaped less None k = absurd (subst HasSome (sym k) tt)
-    escaped less (Some c) k =
-        let m = mapped (front c) (string false bs) x k in
-        omega (arith, less m.0 m.1, ap (λ p. length p.0) m.2, ap (λ p. length p.1) m.2)
+    escaped less None k = absurd (none-some x k)
+    escaped less (Some c) k = front_cut c (length bs) (string false bs) x less k
 string_cut false (b ∷ bs) x h = elim (eqb_tells b 34) as (λ _. length x.0 + length x.1 + 1 ≤ length (b ∷ bs)) [
   | inl p ↦ (let k : Some ([], bs) ≡ Some x = rw p.0 at h in omega (arith, ap (λ p. length p.0) (same_some ([], bs) x k), ap (λ p. length p.1) (same_some ([], bs) x k)))
   | inr p ↦ elim (eqb_tells b 92) as (λ _. length x.0 + length x.1 + 1 ≤ length (b ∷ bs)) [
     | inl q ↦ (let k : string true bs ≡ Some x = rw (p.0, q.0) at h in omega (arith, string_cut true bs x k))
-    | inr q ↦
-        (let k : option_map (front b) (string false bs) ≡ Some x = rw (p.0, q.0) at h in
-        let m = mapped (front b) (string false bs) x k in
-        omega (arith, string_cut false bs m.0 m.1, ap (λ p. length p.0) m.2, ap (λ p. length p.1) m.2))
+    | inr q ↦ front_cut b (length bs) (string false bs) x (string_cut false bs) (rw (p.0, q.0) at h)
   ]
 ]
 

@@ -1,9 +1,10 @@
 ghost use Rattle.std.specs.Prelude.{◌≡◌, ◌==◌, ◌||◌, IfOk, Err};
 ghost use Rattle.fr_value.specs.declared.value.Datum.{Datum};
 ghost use Rattle.fr_value.specs.Data.{datum_of};
-ghost use Rattle.fr_value.specs.Grammar.{IsAtom, is_name, is_symbol_byte, are_symbol_bytes, begins_with_digit, without, is_true, is_false};
+ghost use Rattle.fr_value.specs.Grammar.{IsAtom, is_true, is_false};
 ghost use Rattle.fr_reader.specs.declared.reader.OneStop.TheVariants as OneStop;
 
+use crate::names::symbol;
 use crate::reader::OneStop;
 use fr_value::{Name, Value};
 use std::alloc::Global;
@@ -23,15 +24,15 @@ pub fn atom_value(alloc: Global, bytes: &[u8]) -> Result<Value, OneStop>
     if is_false(bytes) {
         return Ok(Value::Bool(false));
     }
-    let Ok(text) = str::from_utf8(bytes) else {
-        return Err(OneStop::Refused);
-    };
-    if is_name(bytes) {
+    if let Some(name) = symbol(bytes) {
         if bytes.len() > MAX_BYTES {
             return Err(OneStop::Refused);
         }
-        return Ok(Value::Sym(Name::from_str(alloc, text)?));
+        return Ok(Value::Sym(Name::from_str(alloc, name)?));
     }
+    let Ok(text) = str::from_utf8(bytes) else {
+        return Err(OneStop::Refused);
+    };
     match text.parse::<i64>() {
         Ok(n) => Ok(Value::Int(n)),
         Err(_) => Err(OneStop::Refused),
@@ -52,62 +53,4 @@ fn is_false(bytes: &[u8]) -> bool
     ensures { result ≡ is_false bytes.now }
 {
     bytes == b"#f".as_slice() || bytes == b"#false".as_slice()
-}
-
-/// Whether an atom is a symbol.
-fn is_name(bytes: &[u8]) -> bool
-    ensures { result ≡ is_name bytes.now }
-{
-    let Some((b, tail)) = bytes.split_first() else {
-        return false;
-    };
-    are_symbol_bytes(bytes)
-        && !(*b == b'.' && tail.is_empty())
-        && !begins_with_digit(without_point(without_sign(bytes)))
-}
-
-/// The bytes behind one sign, if there is one.
-fn without_sign(bytes: &[u8]) -> &[u8]
-    ensures { result.now ≡ without (λ b. b == 43 || b == 45) bytes.now }
-{
-    match bytes.split_first() {
-        Some((b, tail)) if *b == b'+' || *b == b'-' => tail,
-        _ => bytes,
-    }
-}
-
-/// The bytes behind one point, if there is one.
-fn without_point(bytes: &[u8]) -> &[u8]
-    ensures { result.now ≡ without (λ b. b == 46) bytes.now }
-{
-    match bytes.split_first() {
-        Some((b, tail)) if *b == b'.' => tail,
-        _ => bytes,
-    }
-}
-
-fn begins_with_digit(bytes: &[u8]) -> bool
-    ensures { result ≡ begins_with_digit bytes.now }
-{
-    match bytes.first() {
-        Some(b) => 48 <= *b && *b <= 57,
-        None => false,
-    }
-}
-
-fn are_symbol_bytes(bytes: &[u8]) -> bool
-    ensures { result ≡ are_symbol_bytes bytes.now }
-{
-    for b in bytes {
-        if !is_symbol_byte(*b) {
-            return false;
-        }
-    }
-    true
-}
-
-fn is_symbol_byte(b: u8) -> bool
-    ensures { result ≡ is_symbol_byte b }
-{
-    matches!(b, b'a'..=b'z' | b'A'..=b'Z' | b'0'..=b':' | b'<'..=b'@' | b'$'..=b'&' | b'*'..=b'+' | b'-'..=b'/' | b'!' | b'^' | b'_' | b'~')
 }

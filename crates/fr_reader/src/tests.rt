@@ -212,6 +212,14 @@ fn one_datum_reads_alone(rt: HostRuntime) -> Result<(), AllocError> {
 }
 
 #[test]
+fn symbols_are_texts(rt: HostRuntime) -> Result<(), AllocError> {
+    assert_eq!(rt; symbol(b"set-it!"), Some("set-it!"));
+    assert_eq!(rt; symbol(b"-.5"), None);
+    assert_eq!(rt; symbol(b"\xc3\xa9"), None);
+    Ok(())
+}
+
+#[test]
 fn refusals_are_shown(rt: HostRuntime) -> Result<(), AllocError> {
     let shown = format!(in rt.alloc(); "{}; {}", ReadStop::Refused(3), OneStop::Refused)?;
     assert_eq!(rt;

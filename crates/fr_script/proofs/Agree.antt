@@ -19,7 +19,8 @@ use Rattle.fr_script.specs.Reading.{Front, Reader, is_numeral, fits, where_so, a
 use Rattle.fr_script.specs.declared.said.Said.TheVariants as said
 use Rattle.fr_script.specs.Kinds.{says_value}
 use Rattle.fr_script.proofs.Options.{not_none, mapped, then_some}
-use Rattle.fr_script.proofs.Shorter.{Shortens, gap_less, begins_less}
+use Rattle.fr_reader.proofs.Sizes.{gap_less}
+use Rattle.fr_script.proofs.Shorter.{Shortens, begins_less}
 use Rattle.fr_script.proofs.Numerals.{numeral_of, numeral_from, fits_of, fits_from}
 
 pub so_parts : (b : Bool) (d e : Datum) → where_so b d ≡ Some e → (b ≡ true) × (d ≡ e)

@@ -3,8 +3,6 @@ mod Shorter
 mod Numerals
 mod Agree
 mod Saturated
-mod Symbols
-mod Seen
 mod Added
 mod LineEnds
 mod Cuts

@@ -3,7 +3,6 @@
 
 mod laws;
 mod lines;
-mod names;
 mod progress;
 mod reader;
 mod rest;
@@ -12,7 +11,6 @@ mod sources;
 #[cfg(test)]
 mod tests;
 mod turn;
-mod waiting;
 
 pub use laws::good_scripts_are_short;
 pub use reader::ScriptReader;

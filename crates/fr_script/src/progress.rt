@@ -1,15 +1,14 @@
 //! What is known of the lines before a line.
 
 ghost use Rattle.std.specs.Prelude.{◌≡◌, ◌+◌, ◌<◌, ◌≤◌, IfOk, OnErr, None, Some, true, false};
+ghost use Rattle.fr_script.specs.Instants.{alone};
 ghost use Rattle.fr_script.specs.Kinds.{is_long, is_beyond, is_time, is_full, is_wrong, begins, stands, last_time};
 ghost use Rattle.fr_script.specs.Ahead.{none_before, passed, set_in, closed_by, CanJoin, MaySet, joins};
 
-use crate::waiting::Waiting;
-use fr_core::{Entry, Inputs};
+use fr_core::{Entry, Inputs, Sets};
 use fr_value::SrcId;
 use std::alloc::{AllocError, Global};
 use std::marker::Model;
-use std::mem;
 
 /// The most bytes of a line, without its newline.
 const MAX_LINE: u64 = 65_536;
@@ -27,7 +26,8 @@ pub struct Progress {
     bytes: u64,
     // the limit of instants is the type's own
     count: u32,
-    last: Option<Waiting>,
+    // the last instant, which isn't whole yet
+    last: Option<Inputs>,
 }
 
 impl Model for Progress {
@@ -43,49 +43,51 @@ impl Model for Progress {
     ghost invariant = { λ p. (p.lines ≤ p.bytes) × (p.bytes ≤ 1099511627776) };
 }
 
-fn inputs_of(waiting: Option<Waiting>) -> Option<Inputs>
-    ensures { result ≡ waiting }
+fn time_of(last: &Option<Inputs>) -> u64
+    ensures { result ≡ last_time last.now }
 {
-    match waiting {
-        Some(waiting) => Some(waiting.into_inputs()),
-        None => None,
-    }
-}
-
-fn time_of(waiting: &Option<Waiting>) -> u64
-    ensures { result ≡ last_time waiting.now }
-{
-    match waiting {
-        Some(waiting) => waiting.time(),
+    match last {
+        Some(inputs) => inputs.time,
         None => 0,
     }
 }
 
-fn is_before(waiting: &Option<Waiting>, time: u64) -> bool
-    ensures { result ≡ begins waiting.now time }
+fn is_before(last: &Option<Inputs>, time: u64) -> bool
+    ensures { result ≡ begins last.now time }
 {
-    match waiting {
-        Some(waiting) => waiting.time() < time,
+    match last {
+        Some(inputs) => inputs.time < time,
         None => true,
     }
 }
 
-fn sets(waiting: &Option<Waiting>, time: u64, source: SrcId) -> bool
-    ensures { result ≡ stands waiting.now time source }
+/// Whether an instant of this time sets a source, which is sought by halving, and so takes little time among many.
+fn sets(last: &Option<Inputs>, time: u64, source: SrcId) -> bool
+    ensures { result ≡ stands last.now time source }
 {
-    match waiting {
-        Some(waiting) => waiting.time() == time && waiting.has(source),
+    match last {
+        Some(inputs) => inputs.time == time && inputs.sets.value_of(source).is_some(),
         None => false,
     }
 }
 
-fn add(waiting: &mut Option<Waiting>, entry: Entry) -> Result<(), AllocError>
-    requires { CanJoin waiting.old entry.source }
-    ensures ok { IfOk result (λ _. waiting.new ≡ Some (joins waiting.old 0 entry)) }
-    ensures err { OnErr result (waiting.new ≡ waiting.old) }
+/// An instant of one line.
+fn alone(alloc: Global, time: u64, entry: Entry) -> Result<Inputs, AllocError>
+    ensures { IfOk result (λ inputs. inputs ≡ alone time entry) }
 {
-    match waiting {
-        Some(waiting) => waiting.add(entry),
+    let mut sets = Sets::new(alloc);
+    sets.put(entry.source, entry.value)?;
+    Ok(Inputs { time, sets })
+}
+
+/// One more line of the last instant's time. After want of memory nothing was added.
+fn add(last: &mut Option<Inputs>, entry: Entry) -> Result<(), AllocError>
+    requires { CanJoin last.old entry.source }
+    ensures ok { IfOk result (λ _. last.new ≡ Some (joins last.old 0 entry)) }
+    ensures err { OnErr result (last.new ≡ last.old) }
+{
+    match last {
+        Some(inputs) => inputs.sets.put(entry.source, entry.value),
         None => unreachable!(),
     }
 }
@@ -179,9 +181,9 @@ impl Progress {
         ensures ok { IfOk result (λ closed. (closed ≡ closed_by self.old.last time) × (self.new ≡ set_in self.old time entry)) }
         ensures err { OnErr result (self.new ≡ self.old) }
     {
-        let waiting = Waiting::begin(alloc, time, entry)?;
+        let inputs = alone(alloc, time, entry)?;
         self.count += 1;
-        Ok(inputs_of(mem::replace(&mut self.last, Some(waiting))))
+        Ok(self.last.replace(inputs))
     }
 
     fn join(&mut self, time: u64, entry: Entry) -> Result<(), AllocError>
@@ -217,6 +219,6 @@ impl Progress {
         ensures value { result ≡ self.old.last }
         ensures rest { self.new ≡ record self.old { last = None } }
     {
-        inputs_of(self.last.take())
+        self.last.take()
     }
 }

@@ -3,16 +3,16 @@
 ghost use Rattle.std.specs.Prelude.{◌≡◌, ◌||◌, ◌==◌, true, false, MatchOption};
 ghost use Rattle.fr_value.specs.Grammar.{is_name, is_symbol_byte, are_symbol_bytes, begins_with_digit, without};
 
-use std::str;
-
-/// The text of a symbol; None where the bytes are none.
+/// The text of a symbol, however long; None where the bytes are no symbol.
+#[tactic(auto, using(crate::proofs::Ascii::no_name))]
 pub fn symbol(bytes: &[u8]) -> Option<&str>
     ensures { MatchOption result (is_name bytes.now ≡ false) (λ name. (is_name bytes.now ≡ true) × (name.now ≡ bytes.now)) }
 {
-    let Ok(text) = str::from_utf8(bytes) else {
-        return None;
-    };
-    if is_name(bytes) { Some(text) } else { None }
+    if is_name(bytes) {
+        str::from_utf8(bytes).ok()
+    } else {
+        None
+    }
 }
 
 /// Whether bytes are a symbol.
