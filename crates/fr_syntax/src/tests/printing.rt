@@ -1,38 +1,57 @@
 use crate::*;
 use fr_value::{Name, Value, text_into};
-use std::alloc::AllocError;
+use std::alloc::Global;
 
-/// A space, where a word stands before.
-fn gap(out: &mut Vec<u8>) -> Result<(), AllocError> {
-    match out.as_slice().last() {
-        None => Ok(()),
-        Some(byte) => match *byte {
-            b'(' | b'[' => Ok(()),
-            _ => {
-                out.push(b' ')?;
-                Ok(())
-            }
-        },
+/// A text that is printed to. Where memory lacked once it is no longer whole: that is kept here and not handed on at
+/// each call, since an early end at each of the many calls below is dear to prove.
+#[derive(Drop)]
+pub(crate) struct Printed {
+    text: Vec<u8>,
+    is_whole: bool,
+}
+
+impl Printed {
+    pub(crate) fn new(alloc: Global) -> Printed {
+        Printed {
+            text: Vec::new(alloc),
+            is_whole: true,
+        }
     }
-}
 
-pub(crate) fn word_into(out: &mut Vec<u8>, word: &str) -> Result<(), AllocError> {
-    gap(out)?;
-    out.extend_from_slice(word.as_bytes())
-}
-
-fn literal_into(out: &mut Vec<u8>, value: &Value) -> Result<(), AllocError> {
-    word_into(out, "'")?;
-    text_into(value, out)
-}
-
-fn names_into(out: &mut Vec<u8>, names: &[Name]) -> Result<(), AllocError> {
-    word_into(out, "[")?;
-    for name in names {
-        word_into(out, name.as_str())?;
+    /// Whether the text is whole and is this one.
+    pub(crate) fn is(&self, want: &str) -> bool {
+        self.is_whole && self.text.as_slice() == want.as_bytes()
     }
-    out.push(b']')?;
-    Ok(())
+
+    /// A word, behind a space where a word stands before.
+    pub(crate) fn word(&mut self, word: &str) {
+        match self.text.as_slice().last() {
+            None | Some(b'(' | b'[') => {}
+            Some(_) => self.end(" "),
+        }
+        self.end(word);
+    }
+
+    pub(crate) fn name(&mut self, name: &Name) {
+        self.word(name.as_str());
+    }
+
+    fn end(&mut self, end: &str) {
+        self.is_whole &= self.text.extend_from_slice(end.as_bytes()).is_ok();
+    }
+
+    fn literal(&mut self, value: &Value) {
+        self.word("'");
+        self.is_whole &= text_into(value, &mut self.text).is_ok();
+    }
+
+    fn names(&mut self, names: &[Name]) {
+        self.word("[");
+        for name in names {
+            self.name(name);
+        }
+        self.end("]");
+    }
 }
 
 fn form_word(e: &Expr) -> &'static str {
@@ -64,124 +83,119 @@ fn form_word(e: &Expr) -> &'static str {
 
 /// A literal behind a quote, a name as it is, and any other form in brackets: its word, and its names and parts in their order.
 #[cycle(printing)]
-fn expr_into(out: &mut Vec<u8>, e: &Expr) -> Result<(), AllocError> {
+fn expr_into(out: &mut Printed, e: &Expr) {
     match e {
-        Expr::Literal(value) => literal_into(out, value),
-        Expr::Name(name) => word_into(out, name.as_str()),
+        Expr::Literal(value) => out.literal(value),
+        Expr::Name(name) => out.name(name),
         _ => {
-            word_into(out, "(")?;
-            word_into(out, form_word(e))?;
-            parts_into(out, e)?;
-            out.push(b')')?;
-            Ok(())
+            out.word("(");
+            out.word(form_word(e));
+            parts_into(out, e);
+            out.end(")");
         }
     }
 }
 
 #[cycle(printing)]
-fn parts_into(out: &mut Vec<u8>, e: &Expr) -> Result<(), AllocError> {
+fn parts_into(out: &mut Printed, e: &Expr) {
     match e {
-        Expr::Literal(_) | Expr::Name(_) => Ok(()),
+        Expr::Literal(_) | Expr::Name(_) => {}
         Expr::If(a, b, c) => {
-            expr_into(out, a.get())?;
-            expr_into(out, b.get())?;
-            expr_into(out, c.get())
+            expr_into(out, a.get());
+            expr_into(out, b.get());
+            expr_into(out, c.get());
         }
         Expr::Let(names, values, body) | Expr::LetStar(names, values, body) => {
-            names_into(out, names.as_slice())?;
-            list_into(out, values.as_slice())?;
-            expr_into(out, body.get())
+            out.names(names.as_slice());
+            list_into(out, values.as_slice());
+            expr_into(out, body.get());
         }
         Expr::Cond(tests, values, last) => {
-            list_into(out, tests.as_slice())?;
-            list_into(out, values.as_slice())?;
-            expr_into(out, last.get())
+            list_into(out, tests.as_slice());
+            list_into(out, values.as_slice());
+            expr_into(out, last.get());
         }
         Expr::And(parts) | Expr::Or(parts) | Expr::MergeE(parts) => {
-            each_into(out, parts.as_slice())
+            each_into(out, parts.as_slice());
         }
         Expr::Fold(acc, item, a, b, c) => {
-            word_into(out, acc.as_str())?;
-            word_into(out, item.as_str())?;
-            expr_into(out, a.get())?;
-            expr_into(out, b.get())?;
-            expr_into(out, c.get())
+            out.name(acc);
+            out.name(item);
+            expr_into(out, a.get());
+            expr_into(out, b.get());
+            expr_into(out, c.get());
         }
         Expr::Repeat(acc, a, b, c) => {
-            word_into(out, acc.as_str())?;
-            expr_into(out, a.get())?;
-            expr_into(out, b.get())?;
-            expr_into(out, c.get())
+            out.name(acc);
+            expr_into(out, a.get());
+            expr_into(out, b.get());
+            expr_into(out, c.get());
         }
         Expr::MapE(name, a, b) | Expr::FilterE(name, a, b) | Expr::Feedback(name, a, b) => {
-            word_into(out, name.as_str())?;
-            expr_into(out, a.get())?;
-            expr_into(out, b.get())
+            out.name(name);
+            expr_into(out, a.get());
+            expr_into(out, b.get());
         }
         Expr::Hold(a, b) | Expr::Delay(a, b) => {
-            expr_into(out, a.get())?;
-            expr_into(out, b.get())
+            expr_into(out, a.get());
+            expr_into(out, b.get());
         }
         Expr::CollectB(a, b, payload, state, body) | Expr::CollectE(a, b, payload, state, body) => {
-            expr_into(out, a.get())?;
-            expr_into(out, b.get())?;
-            word_into(out, payload.as_str())?;
-            word_into(out, state.as_str())?;
-            expr_into(out, body.get())
+            expr_into(out, a.get());
+            expr_into(out, b.get());
+            out.name(payload);
+            out.name(state);
+            expr_into(out, body.get());
         }
         Expr::Changes(a) | Expr::OnceE(a) | Expr::DelayE(a) => expr_into(out, a.get()),
         Expr::Call(name, parts) => {
-            word_into(out, name.as_str())?;
-            each_into(out, parts.as_slice())
+            out.name(name);
+            each_into(out, parts.as_slice());
         }
     }
 }
 
 #[cycle(printing)]
-fn each_into(out: &mut Vec<u8>, parts: &[Expr]) -> Result<(), AllocError> {
+fn each_into(out: &mut Printed, parts: &[Expr]) {
     for part in parts {
-        expr_into(out, part)?;
+        expr_into(out, part);
     }
-    Ok(())
 }
 
 #[cycle(printing)]
-fn list_into(out: &mut Vec<u8>, parts: &[Expr]) -> Result<(), AllocError> {
-    word_into(out, "[")?;
-    each_into(out, parts)?;
-    out.push(b']')?;
-    Ok(())
+fn list_into(out: &mut Printed, parts: &[Expr]) {
+    out.word("[");
+    each_into(out, parts);
+    out.end("]");
 }
 
 /// A word for the form, and then its names and its expression.
-pub(crate) fn form_into(out: &mut Vec<u8>, form: &Form) -> Result<(), AllocError> {
+pub(crate) fn form_into(out: &mut Printed, form: &Form) {
     match form {
         Form::Input(name, first) => {
-            word_into(out, "input")?;
-            word_into(out, name.as_str())?;
-            literal_into(out, first)
+            start_into(out, "input", name);
+            out.literal(first);
         }
-        Form::Event(name) => {
-            word_into(out, "event")?;
-            word_into(out, name.as_str())
-        }
+        Form::Event(name) => start_into(out, "event", name),
         Form::Function(name, params, body) => {
-            word_into(out, "function")?;
-            word_into(out, name.as_str())?;
-            names_into(out, params.as_slice())?;
-            expr_into(out, body)
+            start_into(out, "function", name);
+            out.names(params.as_slice());
+            expr_into(out, body);
         }
         Form::Define(name, value) => {
-            word_into(out, "define")?;
-            word_into(out, name.as_str())?;
-            expr_into(out, value)
+            start_into(out, "define", name);
+            expr_into(out, value);
         }
         Form::Show(name, value) => {
-            word_into(out, "show")?;
-            word_into(out, name.as_str())?;
-            expr_into(out, value)
+            start_into(out, "show", name);
+            expr_into(out, value);
         }
     }
+}
+
+fn start_into(out: &mut Printed, word: &str, name: &Name) {
+    out.word(word);
+    out.name(name);
 }
 
 pub(crate) fn sort_word(sort: Sort) -> &'static str {

@@ -10,12 +10,25 @@ struct Reader {
 }
 
 impl Reader {
-    fn word(&mut self, alloc: Global, word: &str) -> Result<(), AllocError> {
-        match word {
-            "(" => self.begin(alloc),
-            ")" => self.end(alloc),
-            _ => self.add(atom(alloc, word)?),
+    fn text(&mut self, alloc: Global, text: &str) -> Result<(), AllocError> {
+        for word in text.split_ascii_whitespace() {
+            self.word(alloc, word)?;
         }
+        Ok(())
+    }
+
+    /// An atom, with the brackets that begin lists before it and those that end lists behind it.
+    fn word(&mut self, alloc: Global, word: &str) -> Result<(), AllocError> {
+        let inner = word.trim_start_matches('(');
+        for _ in inner.len()..word.len() {
+            self.begin(alloc)?;
+        }
+        let atom = inner.trim_end_matches(')');
+        self.atom(alloc, atom)?;
+        for _ in atom.len()..inner.len() {
+            self.end(alloc)?;
+        }
+        Ok(())
     }
 
     fn begin(&mut self, alloc: Global) -> Result<(), AllocError> {
@@ -30,6 +43,13 @@ impl Reader {
         self.add(list(alloc, items)?)
     }
 
+    fn atom(&mut self, alloc: Global, word: &str) -> Result<(), AllocError> {
+        match word {
+            "" => Ok(()),
+            _ => self.add(atom(alloc, word)?),
+        }
+    }
+
     fn add(&mut self, value: Value) -> Result<(), AllocError> {
         self.items.push(value)?;
         Ok(())
@@ -37,12 +57,12 @@ impl Reader {
 }
 
 fn atom(alloc: Global, word: &str) -> Result<Value, AllocError> {
-    match word.parse::<i64>() {
-        Ok(number) => Ok(Value::Int(number)),
-        Err(_) => match word {
-            "#t" => Ok(Value::Bool(true)),
-            "#f" => Ok(Value::Bool(false)),
-            _ => text(alloc, word),
+    match word {
+        "#t" => Ok(Value::Bool(true)),
+        "#f" => Ok(Value::Bool(false)),
+        _ => match word.parse::<i64>() {
+            Ok(number) => Ok(Value::Int(number)),
+            Err(_) => text(alloc, word),
         },
     }
 }
@@ -63,28 +83,15 @@ fn list(alloc: Global, items: Vec<Value>) -> Result<Value, AllocError> {
     }
 }
 
-/// The text with a space round each bracket.
-fn spaced(alloc: Global, text: &str) -> Result<String, AllocError> {
-    let mut out = String::new(alloc);
-    for c in text.chars() {
-        match c {
-            '(' => out.push_str(" ( ")?,
-            ')' => out.push_str(" ) ")?,
-            _ => out.push(c)?,
-        }
-    }
-    Ok(out)
-}
-
-/// The last value of a text of integers, `#t`, `#f`, strings without spaces, symbols and lists; `()` where there is none.
-pub(crate) fn read(alloc: Global, text: &str) -> Result<Value, AllocError> {
-    let spaced = spaced(alloc, text)?;
+/// The last value of a text of integers, `#t`, `#f`, strings without spaces, symbols and lists, if there is one and memory
+/// for it.
+pub(crate) fn read(alloc: Global, text: &str) -> Option<Value> {
     let mut reader = Reader {
         open: Vec::new(alloc),
         items: Vec::new(alloc),
     };
-    for word in spaced.as_str().split_ascii_whitespace() {
-        reader.word(alloc, word)?;
+    match reader.text(alloc, text) {
+        Ok(()) => reader.items.pop(),
+        Err(_) => None,
     }
-    Ok(reader.items.pop().unwrap_or(Value::List(List::empty())))
 }
