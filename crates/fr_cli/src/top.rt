@@ -175,14 +175,17 @@ fn obey<S: Shelf, O: Sink>(
 ///
 /// | Status | Line | Comes |
 /// |---|---|---|
-/// | 0 | none | everything was read to its end, run and written |
+/// | 0 | none | only where the last file was read to its end, and everything run and written |
 /// | 1 | `usage` | exactly where the words are no command |
-/// | 2 | `program refused at form K: KIND` | exactly where the program is refused so |
-/// | 3 | `script refused at line L: KIND` | exactly where the script is refused so, and no earlier stop came |
-/// | 4 | `evaluation error at time T` | exactly where that instant is the first that errs, and no earlier stop came |
+/// | 2 | `program refused at form K: KIND` | only where the program is refused so |
+/// | 3 | `script refused at line L: KIND` | only where the script is refused so, and no instant before that line errs |
+/// | 4 | `evaluation error at time T` | only where that instant is the first that errs, and no line before it is bad |
 /// | 6 | `read fault` | only where the count of a file that the words name rose |
 /// | 7 | `write fault` | only where the count of `out` rose |
-/// | 8 | `no memory` | where there was none |
+/// | 8 | `no memory` | where there was none, of which no clause speaks |
+///
+/// Where none of these counts rose, the status is the one of 0 to 4 that the words, the program and the script call for, or 8:
+/// only a fault or want of memory can come before it.
 ///
 /// Nothing that was written is taken back, and an instant's text is written only when the whole instant is done.
 pub fn frtime<S: Shelf, O: Sink, E: Sink>(
