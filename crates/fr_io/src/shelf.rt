@@ -26,7 +26,7 @@ pub trait Shelf {
     /// buffer is empty, and may otherwise give fewer bytes than there is room for.
     ///
     /// Fails only where the count of the name rose or stands at its greatest value; the buffer may
-    /// then hold anything. The files themselves never change, and it takes no memory.
+    /// then hold anything. The files themselves never change, and it takes no memory of the caller.
     fn read(&mut self, name: &str, position: u64, buf: &mut [u8]) -> Result<usize, Failed>
         ensures within { IfOk result (λ n. n ≤ length buf.new) }
         ensures given { IfOk result (λ n. IfSome (holds self.old name.now) (λ file. GivesFrom file position n buf.new)) }
