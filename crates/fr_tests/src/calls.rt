@@ -36,7 +36,7 @@ pub(crate) enum Call {
     /// The first error of a program over a script.
     Error(&'static str),
     /// The turns of a reader for a program that is fed three pieces.
-    Turns([&'static str; 3]),
+    Turns(&'static str, &'static str, &'static str),
     /// What stands in `Sets` where values are put for these sources.
     Puts(&'static [u32]),
 }
@@ -56,7 +56,7 @@ fn tell(alloc: Global, out: &mut Told, call: Call, text: &[u8]) {
         }
         Call::Shown => programs::tell_behind(alloc, out, call, programs::NAMES, text),
         Call::Fitness => programs::tell_behind(alloc, out, call, purity::NAMES, text),
-        Call::Core | Call::Classes | Call::Error(_) | Call::Turns(_) => {
+        Call::Core | Call::Classes | Call::Error(_) | Call::Turns(_, _, _) => {
             programs::tell_text(alloc, out, call, text);
         }
     }

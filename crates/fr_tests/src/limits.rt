@@ -1,10 +1,10 @@
 use crate::calls::{Call, tells};
 use std::alloc::{AllocError, Global};
 
-type Pieces = [(&'static str, usize); 3];
+type Pieces = &'static [(&'static str, usize)];
 
-/// Three pieces, each as many times as is said.
-fn joined(alloc: Global, pieces: &Pieces) -> Result<Vec<u8>, AllocError> {
+/// Pieces, each as many times as is said.
+fn joined(alloc: Global, pieces: Pieces) -> Result<Vec<u8>, AllocError> {
     let mut text = Vec::new(alloc);
     for (piece, times) in pieces {
         for _ in 0..*times {
@@ -16,42 +16,46 @@ fn joined(alloc: Global, pieces: &Pieces) -> Result<Vec<u8>, AllocError> {
 
 /// Texts above the greatest length of a program, and sizes and depths that no call shows.
 const ROWS: &[(Call, Pieces, &str)] = &[
-    (Call::Count, [("1 ", 1), ("a", 1_048_575), ("", 0)], "2"),
+    (Call::Count, &[("1 ", 1), ("a", 1_048_575), ("", 0)], "2"),
     (
         Call::Count,
-        [("1 ", 1), ("a", 1_048_576), ("", 0)],
+        &[("1 ", 1), ("a", 1_048_576), ("", 0)],
         "refused 2",
     ),
-    (Call::Count, [("(\"", 1), ("a", 1_048_574), ("\")", 1)], "1"),
     (
         Call::Count,
-        [("(\"", 1), ("a", 1_048_575), ("\")", 1)],
+        &[("(\"", 1), ("a", 1_048_574), ("\")", 1)],
+        "1",
+    ),
+    (
+        Call::Count,
+        &[("(\"", 1), ("a", 1_048_575), ("\")", 1)],
         "refused 1",
     ),
-    (Call::Count, [("\"", 1), ("a", 1_048_575), ("\"", 1)], "1"),
+    (Call::Count, &[("\"", 1), ("a", 1_048_575), ("\"", 1)], "1"),
     (
         Call::Count,
-        [("\"", 1), ("a", 1_048_576), ("\"", 1)],
+        &[("\"", 1), ("a", 1_048_576), ("\"", 1)],
         "refused 1",
     ),
     (
         Call::Made,
-        [("\"", 1), ("a", 1_048_574), ("\"", 1)],
+        &[("\"", 1), ("a", 1_048_574), ("\"", 1)],
         "1048576 1 1048576 1 1048576 1",
     ),
     (
         Call::Made,
-        [("\"", 1), ("a", 1_048_575), ("\"", 1)],
+        &[("\"", 1), ("a", 1_048_575), ("\"", 1)],
         "too big too big too big",
     ),
     (
         Call::Made,
-        [("(", 63), ("", 0), (")", 63)],
+        &[("(", 63), ("", 0), (")", 63)],
         "64 64 64 64 64 64",
     ),
     (
         Call::Made,
-        [("(", 64), ("", 0), (")", 64)],
+        &[("(", 64), ("", 0), (")", 64)],
         "too big too big too big",
     ),
 ];

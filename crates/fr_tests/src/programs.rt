@@ -40,7 +40,9 @@ fn tell_program(alloc: Global, out: &mut Told, call: Call, program: Program)
 {
     match call {
         Call::Error(script) => tell_error(alloc, out, program, script),
-        Call::Turns(pieces) => tell_turns(alloc, out, &program, pieces),
+        Call::Turns(first, second, third) => {
+            tell_turns(alloc, out, &program, [first, second, third]);
+        }
         Call::Classes => tell_classes(alloc, out, &program),
         Call::Fitness => tell_fitness(alloc, out, &program),
         Call::Shown => tell_shown(alloc, out, &program),

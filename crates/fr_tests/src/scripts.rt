@@ -122,17 +122,17 @@ const PROGRAM: &str = "(define-input x 0)(define-input y 0)(define-event e)";
 
 const TURNS: &[Row] = &[
     (
-        Call::Turns(["1 x 1\n2", "", " x 2"]),
+        Call::Turns("1 x 1\n2", "", " x 2"),
         PROGRAM,
         "more more more more more more at 1 1 1 at 2 1 2 end end end end",
     ),
     (
-        Call::Turns(["1 x 1\n2 x", " 2\n2 x 3\n", "4 x 3\n"]),
+        Call::Turns("1 x 1\n2 x", " 2\n2 x 3\n", "4 x 3\n"),
         PROGRAM,
         "more more at 1 1 1 twice 3 twice 3 twice 3 twice 3 twice 3 twice 3 twice 3 twice 3 twice 3",
     ),
     (
-        Call::Turns(["1 e 5\n1 y 2\n", "1 x (1 [2])\n", "4 y \"a\"\n5 e 1"]),
+        Call::Turns("1 e 5\n1 y 2\n", "1 x (1 [2])\n", "4 y \"a\"\n5 e 1"),
         PROGRAM,
         "more more more more at 1 1 (1 (2)) 2 2 3 5 more at 4 2 \"a\" at 5 3 1 end end end end",
     ),

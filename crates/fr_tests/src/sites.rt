@@ -3,14 +3,14 @@ use fr_value::{KernId, Name, SiteId, Value};
 use sqlite_items::{Boxed, Items};
 use std::alloc::{AllocError, Global};
 
-fn part(alloc: Global, number: u64) -> Result<Boxed<Low>, AllocError> {
-    Boxed::new(alloc, Low::Lit(Value::Int(number as i64)))
+fn part(alloc: Global, number: u32) -> Result<Boxed<Low>, AllocError> {
+    Boxed::new(alloc, Low::Lit(Value::Int(i64::from(number))))
 }
 
 /// A choice whose site is the number that is its test.
-fn choice(alloc: Global, number: u64, yes: Boxed<Low>) -> Result<Low, AllocError> {
+fn choice(alloc: Global, number: u32, yes: Boxed<Low>) -> Result<Low, AllocError> {
     let test = part(alloc, number)?;
-    Ok(Low::If(SiteId(number), test, yes, part(alloc, 0)?))
+    Ok(Low::If(SiteId(u64::from(number)), test, yes, part(alloc, 0)?))
 }
 
 /// A function whose body is a choice of site 10.
@@ -36,12 +36,12 @@ fn body(alloc: Global) -> Result<Items<LowItem>, AllocError> {
     Ok(body)
 }
 
-fn is_test(test: &Low, number: u64) -> bool {
-    matches!(test, Low::Lit(Value::Int(n)) if *n == number as i64)
+fn is_test(test: &Low, number: u32) -> bool {
+    matches!(test, Low::Lit(Value::Int(n)) if *n == i64::from(number))
 }
 
-fn has_site(program: &Lowered, number: u64) -> bool {
-    match program.site(SiteId(number)) {
+fn has_site(program: &Lowered, number: u32) -> bool {
+    match program.site(SiteId(u64::from(number))) {
         Some(Low::If(_, test, _, _)) => is_test(test.get(), number),
         _ => false,
     }
