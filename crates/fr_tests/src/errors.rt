@@ -28,7 +28,13 @@ fn bad_word(bad: Bad) -> &'static str {
     }
 }
 
+/// The parts of a path with points between them; of a long one only how many they are.
 fn tell_path(out: &mut Told, path: &Path) {
+    if path.len() > 9 {
+        out.number(path.len() as u64);
+        out.word("parts");
+        return;
+    }
     for step in 0..path.len() {
         out.end(if step == 0 { " " } else { "." });
         out.digits(path.part(step).unwrap_or(0) as u64);
@@ -393,6 +399,26 @@ const ERRORS: &[Row] = &[
         Call::Error(""),
         "(show f (feedback (n (car '())) 1))",
         "0: 0.0 Empty",
+    ),
+    (
+        Call::Error(""),
+        "(define (f n) (f n))(show y (f 1))",
+        "0: 2001 parts Deep",
+    ),
+    (
+        Call::Error(""),
+        "(define (f n) (if #t (f n) n))(show y (f 1))",
+        "0: 2001 parts Deep",
+    ),
+    (
+        Call::Error(""),
+        "(define (f n) (feedback (m 0) (f m)))(show y (f 1))",
+        "0: 2001 parts Deep",
+    ),
+    (
+        Call::Error(""),
+        "(define (f n) (let ((a n)) (for/fold ((acc a)) ((x '(1))) (f acc))))(show y (f 1))",
+        "0: 2667 parts Deep",
     ),
     (
         Call::Error(""),
