@@ -8,8 +8,6 @@ mod lowered;
 mod path;
 mod program;
 mod site;
-#[cfg(test)]
-mod tests;
 mod text;
 mod words;
 

@@ -16,6 +16,3 @@ pub use real::{DirShelf, StdSink};
 pub use shelf::{ReadStop, Shelf, read_up_to};
 pub use sink::{Failed, Sink, write_all};
 pub use sure::{SureShelf, SureSink};
-
-#[cfg(test)]
-mod tests;

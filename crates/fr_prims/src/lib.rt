@@ -8,8 +8,6 @@ mod lists;
 mod names;
 mod strings;
 mod table;
-#[cfg(test)]
-mod tests;
 
 pub use names::prim_named;
 pub use table::{PrimStop, apply};

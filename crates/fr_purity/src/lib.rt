@@ -7,8 +7,6 @@ mod fitness;
 mod judging;
 mod naming;
 mod removal;
-#[cfg(test)]
-mod tests;
 
 pub use classification::{Classes, classify};
 pub use fitness::{is_fit, is_pure};

@@ -6,8 +6,6 @@ mod bytes;
 mod front;
 mod names;
 mod reader;
-#[cfg(test)]
-mod tests;
 
 pub use names::symbol;
 pub use reader::{OneStop, ReadStop, one_reading, printed_text_reads, read_all, read_one};

@@ -4,8 +4,6 @@
 mod globals;
 mod meaning;
 mod scope;
-#[cfg(test)]
-mod tests;
 
 pub use globals::Globals;
 pub use meaning::Meaning;

@@ -8,8 +8,6 @@ mod reader;
 mod rest;
 mod said;
 mod sources;
-#[cfg(test)]
-mod tests;
 mod turn;
 
 pub use laws::good_scripts_are_short;

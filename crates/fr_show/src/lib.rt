@@ -5,8 +5,6 @@ mod acceptance;
 mod laws;
 mod shows;
 mod stop;
-#[cfg(test)]
-mod tests;
 
 pub use acceptance::{AcceptStop, PROGRAM_LIMIT, accept, program_of, read_forms};
 pub use laws::{front_decides, verdict_is_one};

@@ -15,8 +15,6 @@ mod openings;
 mod outlines;
 mod parts;
 mod shapes;
-#[cfg(test)]
-mod tests;
 
 pub use expr::Expr;
 pub use form::Form;

@@ -7,8 +7,6 @@ mod ids;
 mod name;
 mod now;
 mod primitive;
-#[cfg(test)]
-mod tests;
 mod text;
 mod value;
 

@@ -1,0 +1,80 @@
+use crate::told::Told;
+use crate::{data, names, programs, purity, scripts};
+use std::alloc::Global;
+
+/// What is called on the text of a row.
+#[derive(Clone, Copy)]
+pub(crate) enum Call {
+    /// `read_all`: the data.
+    Data,
+    /// `read_all`: the number of data.
+    Count,
+    /// `read_one`: the datum.
+    Datum,
+    /// `symbol`: the text of a symbol.
+    Symbol,
+    /// Size and depth of a datum and of one more owner; of a list also what it is taken apart into.
+    Measures,
+    /// Size and depth of a list of a datum, made in three ways.
+    Made,
+    /// `same` of each two items of a list that is read twice.
+    Same,
+    /// `apply` on a primitive's name and its arguments, in a list.
+    Applied,
+    /// `outline_of` a datum.
+    Outline,
+    /// `Globals::meaning` of a name where forms stand, behind steps of a scope.
+    Meaning(&'static str, &'static str),
+    /// `core_text` of a program.
+    Core,
+    /// `core_text` of a shown expression behind some names.
+    Shown,
+    /// `classify` a program.
+    Classes,
+    /// `is_pure` and `is_fit` of a shown expression behind some names.
+    Fitness,
+    /// The first error of a program over a script.
+    Error(&'static str),
+    /// The turns of a reader for a program that is fed three pieces.
+    Turns(&'static str, &'static str, &'static str),
+    /// What stands in `Sets` where values are put for these sources.
+    Puts(&'static [u32]),
+}
+
+/// A call, the text that it is made on, and what is told of the answer.
+pub(crate) type Row = (Call, &'static str, &'static str);
+
+fn tell(alloc: Global, out: &mut Told, call: Call, text: &[u8]) {
+    match call {
+        Call::Data | Call::Count => data::tell_all(alloc, out, call, text),
+        Call::Symbol => data::tell_symbol(out, text),
+        Call::Same => data::tell_same(alloc, out, text),
+        Call::Puts(sources) => scripts::tell_puts(alloc, out, sources),
+        Call::Meaning(steps, name) => names::tell_meaning(alloc, out, text, steps, name),
+        Call::Datum | Call::Measures | Call::Made | Call::Applied | Call::Outline => {
+            data::tell_one(alloc, out, call, text);
+        }
+        Call::Shown => programs::tell_behind(alloc, out, call, programs::NAMES, text),
+        Call::Fitness => programs::tell_behind(alloc, out, call, purity::NAMES, text),
+        Call::Core | Call::Classes | Call::Error(_) | Call::Turns(_, _, _) => {
+            programs::tell_text(alloc, out, call, text);
+        }
+    }
+}
+
+/// Whether a call on a text tells this.
+pub(crate) fn tells(alloc: Global, call: Call, text: &[u8], want: &str) -> bool {
+    let mut out = Told::new(alloc);
+    tell(alloc, &mut out, call, text);
+    out.is(want)
+}
+
+/// The number of the first row of which something else is told, counted from 1, or 0.
+pub(crate) fn wrong(alloc: Global, rows: &'static [Row]) -> usize {
+    for (at, (call, text, want)) in rows.iter().enumerate() {
+        if !tells(alloc, *call, text.as_bytes(), want) {
+            return at + 1;
+        }
+    }
+    0
+}

@@ -1,0 +1,453 @@
+ghost use Rattle.std.specs.Prelude.{◌≤◌, IfOk, IfSome};
+ghost use Rattle.fr_core.specs.WellFormed.{IsWellFormed};
+ghost use Rattle.fr_afresh.specs.Stands.{program_of};
+
+use crate::calls::{Call, Row, wrong};
+use crate::told::Told;
+use fr_afresh::{Afresh, AfreshStop, FirstBad};
+use fr_core::{Inputs, Path, Program, Sets};
+use fr_script::{ScriptReader, Turn};
+use fr_value::Bad;
+use std::alloc::{AllocError, Global};
+
+/// The greatest time of a script's line.
+const MOST_TIME: u64 = 9_223_372_036_854_775_807;
+
+fn bad_word(bad: Bad) -> &'static str {
+    match bad {
+        Bad::WrongType => "WrongType",
+        Bad::Range => "Range",
+        Bad::Zero => "Zero",
+        Bad::Empty => "Empty",
+        Bad::Arity => "Arity",
+        Bad::TooBig => "TooBig",
+        Bad::NotData => "NotData",
+        Bad::NotEvent => "NotEvent",
+        Bad::Deep => "Deep",
+        Bad::Raised => "Raised",
+    }
+}
+
+/// The parts of a path with points between them; of a long one only how many they are.
+fn tell_path(out: &mut Told, path: &Path) {
+    if path.len() > 9 {
+        out.number(path.len() as u64);
+        out.word("parts");
+        return;
+    }
+    for step in 0..path.len() {
+        out.end(if step == 0 { " " } else { "." });
+        out.digits(path.part(step).unwrap_or(0) as u64);
+    }
+}
+
+/// `TIME: PATH KIND`.
+fn tell_first(out: &mut Told, error: &FirstBad) {
+    out.digits(error.time);
+    out.end(":");
+    tell_path(out, &error.path);
+    out.word(bad_word(error.bad));
+}
+
+fn tell_stop(out: &mut Told, stop: &AfreshStop) {
+    match stop {
+        AfreshStop::First(error) => tell_first(out, error),
+        AfreshStop::Memory(_) => out.lacks(),
+    }
+}
+
+/// The next instant of a reader, where its time is in range.
+fn instant_of(reader: &mut ScriptReader) -> Result<Option<Inputs>, AllocError>
+    ensures { IfOk result (λ next. IfSome next (λ i. i.time ≤ 9223372036854775807)) }
+{
+    match reader.next() {
+        Ok(Turn::Instant(inputs)) if inputs.time <= MOST_TIME => Ok(Some(inputs)),
+        Ok(_) => Ok(None),
+        Err(e) => Err(e),
+    }
+}
+
+/// The stop at the instants that a reader still gives, of which there are at most ten.
+fn stop_behind(mut at: Afresh, reader: &mut ScriptReader) -> Option<AfreshStop>
+    requires well_formed { IsWellFormed (program_of at) }
+{
+    'instants: for _ in 0..10 {
+        match instant_of(reader) {
+            Ok(Some(inputs)) => match at.instant(&inputs) {
+                Ok(next) => at = next,
+                Err(stop) => return Some(stop),
+            },
+            Ok(None) => return None,
+            Err(e) => return Some(AfreshStop::Memory(e)),
+        }
+    }
+    None
+}
+
+/// The stop of a program at instant 0 or over the instants that a reader gives.
+fn stop_over(alloc: Global, program: Program, reader: &mut ScriptReader) -> Option<AfreshStop>
+    requires well_formed { IsWellFormed program }
+{
+    let first = Inputs {
+        time: 0,
+        sets: Sets::new(alloc),
+    };
+    match Afresh::start(alloc, program, &first) {
+        Ok(at) => stop_behind(at, reader),
+        Err(stop) => Some(stop),
+    }
+}
+
+/// A reader of a whole script for a program.
+fn reader_of(alloc: Global, program: &Program, script: &str) -> Result<ScriptReader, AllocError> {
+    let mut reader = ScriptReader::new(alloc, program)?;
+    match reader.feed(script.as_bytes()) {
+        Ok(()) => {
+            reader.end();
+            Ok(reader)
+        }
+        Err(e) => Err(e),
+    }
+}
+
+fn tell_over(alloc: Global, out: &mut Told, program: Program, reader: &mut ScriptReader)
+    requires well_formed { IsWellFormed program }
+{
+    match stop_over(alloc, program, reader) {
+        Some(stop) => tell_stop(out, &stop),
+        None => out.word("none"),
+    }
+}
+
+/// The first error of a program over a script of at most ten instants.
+pub(crate) fn tell_error(alloc: Global, out: &mut Told, program: Program, script: &str)
+    requires well_formed { IsWellFormed program }
+{
+    match reader_of(alloc, &program, script) {
+        Ok(mut reader) => tell_over(alloc, out, program, &mut reader),
+        Err(_) => out.lacks(),
+    }
+}
+
+/// Programs and scripts, and the time, the path and the kind of the first error.
+const ERRORS: &[Row] = &[
+    (
+        Call::Error(""),
+        "(define a (car '()))(show b 1)",
+        "0: 0 Empty",
+    ),
+    (
+        Call::Error(""),
+        "(show a (car '()))(show b (quotient 1 0))",
+        "0: 0 Empty",
+    ),
+    (
+        Call::Error(""),
+        "(show a (let ((y (car '())) (z (quotient 1 0))) 1))",
+        "0: 0.0 Empty",
+    ),
+    (
+        Call::Error(""),
+        "(show a (let ((y 1) (z (quotient 1 0))) (car y)))",
+        "0: 0.1 Zero",
+    ),
+    (
+        Call::Error(""),
+        "(show a (let ((y 1)) (car y)))",
+        "0: 0.1 WrongType",
+    ),
+    (
+        Call::Error(""),
+        "(show a (if (car '()) 1 2))",
+        "0: 0.0 Empty",
+    ),
+    (
+        Call::Error(""),
+        "(show a (if 0 (car '()) 1))",
+        "0: 0.1 Empty",
+    ),
+    (
+        Call::Error(""),
+        "(show a (if #f 1 (car '())))",
+        "0: 0.2 Empty",
+    ),
+    (
+        Call::Error(""),
+        "(define-event e)(show a (if e 1 2))",
+        "0: 0 WrongType",
+    ),
+    (
+        Call::Error(""),
+        "(define (f a) a)(show r (f 1 2))",
+        "0: 0 Arity",
+    ),
+    (
+        Call::Error(""),
+        "(define (f a) 1)(show r (f (car '())))",
+        "0: 0.0 Empty",
+    ),
+    (
+        Call::Error(""),
+        "(define (f a) (car a))(show r (f '()))",
+        "0: 0.1 Empty",
+    ),
+    (
+        Call::Error(""),
+        "(define-event e)(show a (+ 1 e))",
+        "0: 0 WrongType",
+    ),
+    (
+        Call::Error(""),
+        "(define-event e)(show a (not e e))",
+        "0: 0 WrongType",
+    ),
+    (Call::Error(""), "(show a (not 1 2))", "0: 0 Arity"),
+    (
+        Call::Error(""),
+        "(show a (+ (car '()) (quotient 1 0)))",
+        "0: 0.0 Empty",
+    ),
+    (
+        Call::Error(""),
+        "(show a (+ 9223372036854775807 1))",
+        "0: 0 Range",
+    ),
+    (Call::Error(""), "(show a (raise 1))", "0: 0 Raised"),
+    (
+        Call::Error(""),
+        "(show s (for/fold ((a 0)) ((x 5)) a))",
+        "0: 0 WrongType",
+    ),
+    (
+        Call::Error(""),
+        "(show s (for/fold ((a 12)) ((x '(2 0 3))) (quotient a x)))",
+        "0: 0.2.1 Zero",
+    ),
+    (
+        Call::Error(""),
+        "(show s (for/fold ((a (car '()))) ((x '(1))) a))",
+        "0: 0.0 Empty",
+    ),
+    (
+        Call::Error(""),
+        "(show s (for/fold ((a 0)) ((x (car '()))) a))",
+        "0: 0.1 Empty",
+    ),
+    (
+        Call::Error(""),
+        "(show p (repeat (a 1) -1 a))",
+        "0: 0 Range",
+    ),
+    (
+        Call::Error(""),
+        "(show p (repeat (a 1) 1048577 a))",
+        "0: 0 Range",
+    ),
+    (
+        Call::Error(""),
+        "(show p (repeat (a 1) \"x\" a))",
+        "0: 0 WrongType",
+    ),
+    (
+        Call::Error(""),
+        "(show p (repeat (a 2) 5 (quotient 1 (- a 1))))",
+        "0: 0.2.1 Zero",
+    ),
+    (
+        Call::Error("1 e (7)\n2 e ()"),
+        "(define-event e)(show m (map-e (lambda (v) (car v)) e))",
+        "2: 0.1 Empty",
+    ),
+    (
+        Call::Error(""),
+        "(show m (map-e (lambda (v) v) 5))",
+        "0: 0 NotEvent",
+    ),
+    (
+        Call::Error(""),
+        "(show m (map-e (lambda (v) v) (car '())))",
+        "0: 0.0 Empty",
+    ),
+    (
+        Call::Error("1 b 1\n2 a 1"),
+        "(define-event a)(define-event b)(show m (map-e (lambda (v) b) a))",
+        "2: 0 NotData",
+    ),
+    (
+        Call::Error("1 a 1"),
+        "(define-event a)(define-event b)(show f (filter-e (lambda (v) b) a))",
+        "1: 0 WrongType",
+    ),
+    (
+        Call::Error("1 e a"),
+        "(define-event e)(show f (filter-e (lambda (v) (zero? v)) e))",
+        "1: 0.1 WrongType",
+    ),
+    (
+        Call::Error(""),
+        "(show f (filter-e (lambda (v) #t) 1))",
+        "0: 0 NotEvent",
+    ),
+    (
+        Call::Error(""),
+        "(define-event a)(show m (merge-e a 1))",
+        "0: 0 NotEvent",
+    ),
+    (
+        Call::Error(""),
+        "(show m (merge-e (car '()) (quotient 1 0)))",
+        "0: 0.0 Empty",
+    ),
+    (
+        Call::Error(""),
+        "(define-event e)(define-event d)(show h (hold e d))",
+        "0: 0 NotData",
+    ),
+    (
+        Call::Error(""),
+        "(define-event d)(show h (hold 1 d))",
+        "0: 0 NotEvent",
+    ),
+    (
+        Call::Error("1 i 0"),
+        "(define-event e)(define-input i 5)(show h (hold e (quotient 10 i)))",
+        "1: 0.1 Zero",
+    ),
+    (
+        Call::Error("1 e 5\n2 e 0"),
+        "(define-event e)(show c (collect-b e 10 (lambda (v a) (quotient a v))))",
+        "2: 0.2 Zero",
+    ),
+    (
+        Call::Error(""),
+        "(show c (collect-b 1 0 (lambda (v a) a)))",
+        "0: 0 NotEvent",
+    ),
+    (
+        Call::Error(""),
+        "(define-event e)(show c (collect-b e e (lambda (v a) a)))",
+        "0: 0 NotData",
+    ),
+    (
+        Call::Error("1 a 1"),
+        "(define-event a)(define-event b)(show c (collect-b a 0 (lambda (v s) b)))",
+        "1: 0 NotData",
+    ),
+    (
+        Call::Error("1 e 5\n2 e 0"),
+        "(define-event e)(show c (collect-e e 10 (lambda (v a) (quotient a v))))",
+        "2: 0.2 Zero",
+    ),
+    (
+        Call::Error(""),
+        "(show c (collect-e 1 0 (lambda (v a) a)))",
+        "0: 0 NotEvent",
+    ),
+    (
+        Call::Error(""),
+        "(define-event e)(show c (changes e))",
+        "0: 0 NotData",
+    ),
+    (
+        Call::Error(""),
+        "(show c (changes (car '())))",
+        "0: 0.0 Empty",
+    ),
+    (Call::Error(""), "(show o (once-e 5))", "0: 0 NotEvent"),
+    (
+        Call::Error(""),
+        "(define-event e)(show p (delay 0 e))",
+        "0: 0 NotData",
+    ),
+    (
+        Call::Error(""),
+        "(define-event e)(show p (+ (delay 0 e) (car '())))",
+        "0: 0.0 NotData",
+    ),
+    (
+        Call::Error(""),
+        "(define-event e)(show p (delay e 0))",
+        "0: 0 NotData",
+    ),
+    (
+        Call::Error(""),
+        "(show p (delay 0 (car '())))",
+        "0: 0.1 Empty",
+    ),
+    (Call::Error(""), "(show d (delay-e 5))", "0: 0 NotEvent"),
+    (
+        Call::Error(""),
+        "(show d (delay-e (car '())))",
+        "0: 0.0 Empty",
+    ),
+    (
+        Call::Error(""),
+        "(define-event e)(show f (feedback (n 0) e))",
+        "0: 0 NotData",
+    ),
+    (
+        Call::Error(""),
+        "(define-event e)(show f (feedback (n e) (car '())))",
+        "0: 0.1 Empty",
+    ),
+    (
+        Call::Error(""),
+        "(define-event e)(show f (feedback (n e) 1))",
+        "0: 0 NotData",
+    ),
+    (
+        Call::Error(""),
+        "(show f (feedback (n (car '())) 1))",
+        "0: 0.0 Empty",
+    ),
+    (
+        Call::Error(""),
+        "(define (f n) (f n))(show y (f 1))",
+        "0: 2001 parts Deep",
+    ),
+    (
+        Call::Error(""),
+        "(define (f n) (if #t (f n) n))(show y (f 1))",
+        "0: 2001 parts Deep",
+    ),
+    (
+        Call::Error(""),
+        "(define (f n) (feedback (m 0) (f m)))(show y (f 1))",
+        "0: 2001 parts Deep",
+    ),
+    (
+        Call::Error(""),
+        "(define (f n) (let ((a n)) (for/fold ((acc a)) ((x '(1))) (f acc))))(show y (f 1))",
+        "0: 2667 parts Deep",
+    ),
+    (
+        Call::Error(""),
+        "(show v (let ((s (repeat (s \"a\") 19 (string-append s s)))) (string-append s s)))",
+        "0: 0.1 TooBig",
+    ),
+    (
+        Call::Error(""),
+        "(show v (let ((s (repeat (s \"a\") 19 (string-append s s)))) (list s s)))",
+        "0: 0.1 TooBig",
+    ),
+    (
+        Call::Error(""),
+        "(show v (let ((s (repeat (s \"a\") 19 (string-append s s)))) (append (list s) (list s))))",
+        "0: 0.1 TooBig",
+    ),
+    (
+        Call::Error(""),
+        "(show v (let ((s (repeat (s \"a\") 19 (string-append s s)))) (cons s (list s))))",
+        "0: 0.1 TooBig",
+    ),
+    (
+        Call::Error("1 x 2"),
+        "(define-input x 1)(show y (+ x 1))",
+        "none",
+    ),
+];
+
+#[test]
+fn first_errors_have_their_time_path_and_kind(rt: HostRuntime) {
+    assert_eq!(rt; wrong(rt.alloc(), ERRORS), 0);
+}

@@ -1,0 +1,303 @@
+use crate::calls::{Call, Row, wrong};
+use crate::told::Told;
+use fr_reader::{read_all, read_one};
+use fr_scope::{Globals, Meaning, Scope};
+use fr_syntax::{Form, Keyword, Outline, Sort, form_of, keyword_named, outline_of};
+use fr_value::{Name, Value};
+use std::alloc::{AllocError, Global};
+
+/// One step: `_` is a variable without a name, `<2` leaves the scope of all but two variables, and a name is a variable.
+fn step(alloc: Global, scope: &mut Scope, text: &str) -> Result<(), AllocError> {
+    if let Some(digits) = text.strip_prefix('<') {
+        scope.cut(digits.parse::<usize>().unwrap_or(0));
+        return Ok(());
+    }
+    if scope.len() > 9 {
+        return Ok(());
+    }
+    match text {
+        "_" => scope.push_unnamed(),
+        _ => scope.push(&Name::from_str(alloc, text)?),
+    }
+}
+
+/// The variables in scope behind steps with spaces between them, at most ten.
+fn scope(alloc: Global, text: &str) -> Result<Scope, AllocError> {
+    let mut scope = Scope::new(alloc);
+    for part in text.split_ascii_whitespace() {
+        step(alloc, &mut scope, part)?;
+    }
+    Ok(scope)
+}
+
+fn tell(out: &mut Told, meaning: Option<Meaning>) {
+    match meaning {
+        Some(Meaning::Variable(variable)) => out.number(u64::from(variable.0)),
+        Some(Meaning::Source(source)) => {
+            out.word("source");
+            out.number(u64::from(source.0));
+        }
+        Some(Meaning::Function(function)) => {
+            out.word("function");
+            out.number(u64::from(function.0));
+        }
+        Some(Meaning::Primitive(_)) => out.word("primitive"),
+        None => out.word("none"),
+    }
+}
+
+fn globals(alloc: Global, forms: Vec<Value>) -> Result<Globals, AllocError> {
+    let mut forms = forms;
+    forms.truncate(9);
+    Globals::of(alloc, &forms)
+}
+
+fn meaning(
+    alloc: Global,
+    forms: Vec<Value>,
+    scope: &Scope,
+    name: &str,
+) -> Result<Option<Meaning>, AllocError> {
+    let name = Name::from_str(alloc, name)?;
+    let globals = globals(alloc, forms)?;
+    Ok(globals.meaning(scope, &name))
+}
+
+fn tell_in(alloc: Global, out: &mut Told, forms: Vec<Value>, scope: &Scope, name: &str) {
+    out.number(scope.len() as u64);
+    match meaning(alloc, forms, scope, name) {
+        Ok(found) => tell(out, found),
+        Err(_) => out.lacks(),
+    }
+}
+
+/// The number of variables in scope behind steps, and what a name means there where at most nine forms stand.
+pub(crate) fn tell_meaning(alloc: Global, out: &mut Told, text: &[u8], steps: &str, name: &str) {
+    if text.len() > 2_000_000_000 {
+        return;
+    }
+    match (read_all(alloc, text), scope(alloc, steps)) {
+        (Ok(forms), Ok(scope)) => tell_in(alloc, out, forms, &scope, name),
+        _ => out.lacks(),
+    }
+}
+
+/// The names of the rows' variables and the innermost of a name; then what hides what; then which form decides.
+const MEANINGS: &[Row] = &[
+    (Call::Meaning("", "x"), "", "0 none"),
+    (Call::Meaning("x", "x"), "", "1 0"),
+    (Call::Meaning("x y", "y"), "", "2 1"),
+    (Call::Meaning("x y", "z"), "", "2 none"),
+    (Call::Meaning("x y x", "x"), "", "3 2"),
+    (Call::Meaning("x y x <2", "x"), "", "2 0"),
+    (Call::Meaning("x y x <2", "y"), "", "2 1"),
+    (Call::Meaning("x y x <1", "y"), "", "1 none"),
+    (Call::Meaning("x y x <0", "x"), "", "0 none"),
+    (Call::Meaning("x y x <7", "x"), "", "3 2"),
+    (Call::Meaning("x x x <2", "x"), "", "2 1"),
+    (Call::Meaning("x y x <2 z x", "x"), "", "4 3"),
+    (Call::Meaning("x y x <1 z y <2", "y"), "", "2 none"),
+    (Call::Meaning("_ x _", "x"), "", "3 1"),
+    (Call::Meaning("x _ x <2", "x"), "", "2 0"),
+    (Call::Meaning("x _", "_"), "", "2 none"),
+    (Call::Meaning("x X", "x"), "", "2 0"),
+    (Call::Meaning("xx x", "xx"), "", "2 0"),
+    (
+        Call::Meaning("", "x"),
+        "(define-input x 1) (define-event e) (define (f n) n)",
+        "0 source 1",
+    ),
+    (
+        Call::Meaning("", "e"),
+        "(define-input x 1) (define-event e) (define (f n) n)",
+        "0 source 2",
+    ),
+    (
+        Call::Meaning("", "f"),
+        "(define-input x 1) (define-event e) (define (f n) n)",
+        "0 function 0",
+    ),
+    (
+        Call::Meaning("", "n"),
+        "(define-input x 1) (define-event e) (define (f n) n)",
+        "0 none",
+    ),
+    (
+        Call::Meaning("", "now"),
+        "(define-input x 1) (define-event e) (define (f n) n)",
+        "0 source 0",
+    ),
+    (
+        Call::Meaning("", "car"),
+        "(define-input x 1) (define-event e) (define (f n) n)",
+        "0 primitive",
+    ),
+    (
+        Call::Meaning("", "first"),
+        "(define-input x 1) (define-event e) (define (f n) n)",
+        "0 primitive",
+    ),
+    (
+        Call::Meaning("y x", "x"),
+        "(define-input x 1) (define-event e) (define (f n) n)",
+        "2 1",
+    ),
+    (
+        Call::Meaning("y x <1", "x"),
+        "(define-input x 1) (define-event e) (define (f n) n)",
+        "1 source 1",
+    ),
+    (
+        Call::Meaning("f", "f"),
+        "(define-input x 1) (define-event e) (define (f n) n)",
+        "1 0",
+    ),
+    (
+        Call::Meaning("now car", "now"),
+        "(define-input x 1) (define-event e) (define (f n) n)",
+        "2 0",
+    ),
+    (
+        Call::Meaning("now car", "car"),
+        "(define-input x 1) (define-event e) (define (f n) n)",
+        "2 1",
+    ),
+    (
+        Call::Meaning("now car", "first"),
+        "(define-input x 1) (define-event e) (define (f n) n)",
+        "2 primitive",
+    ),
+    (
+        Call::Meaning("", "car"),
+        "(define-input car 1) (define (now) 1)",
+        "0 source 1",
+    ),
+    (
+        Call::Meaning("", "first"),
+        "(define-input car 1) (define (now) 1)",
+        "0 primitive",
+    ),
+    (
+        Call::Meaning("", "now"),
+        "(define-input car 1) (define (now) 1)",
+        "0 function 0",
+    ),
+    (
+        Call::Meaning("", "f"),
+        "(define (f) 1) (define-input f 2) (define-input g 3)",
+        "0 function 0",
+    ),
+    (
+        Call::Meaning("", "g"),
+        "(define (f) 1) (define-input f 2) (define-input g 3)",
+        "0 source 2",
+    ),
+    (
+        Call::Meaning("", "f"),
+        "(define-event f) (define (f) 1) (define (g) 2)",
+        "0 source 1",
+    ),
+    (
+        Call::Meaning("", "g"),
+        "(define-event f) (define (f) 1) (define (g) 2)",
+        "0 function 1",
+    ),
+    (Call::Meaning("", "x"), "(define-input x)", "0 source 1"),
+    (Call::Meaning("", "x"), "(define-event x 1 2)", "0 source 1"),
+    (Call::Meaning("", "f"), "(define (f 1 2))", "0 function 0"),
+    (
+        Call::Meaning("", "x"),
+        "(define-input 5 1) (define-input x 1)",
+        "0 source 1",
+    ),
+    (Call::Meaning("", "x"), "(define-event (x) 1)", "0 none"),
+    (
+        Call::Meaning("", "define-input"),
+        "(define-input) (define-event)",
+        "0 none",
+    ),
+    (Call::Meaning("", "define"), "(define () 1)", "0 none"),
+    (Call::Meaning("", "f"), "(define (5 f) 1)", "0 none"),
+    (Call::Meaning("", "f"), "(define f 1)", "0 none"),
+    (Call::Meaning("", "a"), "(show a 1)", "0 none"),
+    (Call::Meaning("", "x"), "(input x 1)", "0 none"),
+    (Call::Meaning("", "x"), "x", "0 none"),
+];
+
+#[test]
+fn names_mean_the_innermost_variable_or_the_first_form(rt: HostRuntime) {
+    assert_eq!(rt; wrong(rt.alloc(), MEANINGS), 0);
+}
+
+/// The global name that a form gives, behind what it is.
+pub(crate) fn tell_outline(out: &mut Told, form: &Value) {
+    match outline_of(form) {
+        Some(Outline { name, sort }) => {
+            out.word(match sort {
+                Sort::Input => "input",
+                Sort::Event => "event",
+                Sort::Function => "function",
+            });
+            out.word(name.as_str());
+        }
+        None => out.word("none"),
+    }
+}
+
+const OUTLINES: &[Row] = &[
+    (Call::Outline, "(define-input x 1)", "input x"),
+    (Call::Outline, "(define-input x)", "input x"),
+    (Call::Outline, "(define-input if 1 2 3)", "input if"),
+    (Call::Outline, "(define-event e)", "event e"),
+    (Call::Outline, "(define-event e ())", "event e"),
+    (Call::Outline, "(define (f a) a)", "function f"),
+    (Call::Outline, "(define (f 1))", "function f"),
+    (Call::Outline, "(define (f))", "function f"),
+    (Call::Outline, "(define x 1)", "none"),
+    (Call::Outline, "(define () 1)", "none"),
+    (Call::Outline, "(define (1) 2)", "none"),
+    (Call::Outline, "(define ((f)) 2)", "none"),
+    (Call::Outline, "(define)", "none"),
+    (Call::Outline, "(define-input)", "none"),
+    (Call::Outline, "(define-input (x) 1)", "none"),
+    (Call::Outline, "(define-input 1 2)", "none"),
+    (Call::Outline, "(define-event (e))", "none"),
+    (Call::Outline, "(show x 1)", "none"),
+    (Call::Outline, "(f x)", "none"),
+    (Call::Outline, "((define-input) x)", "none"),
+    (Call::Outline, "()", "none"),
+    (Call::Outline, "x", "none"),
+];
+
+#[test]
+fn an_outline_asks_for_the_first_two_items_alone(rt: HostRuntime) {
+    assert_eq!(rt; wrong(rt.alloc(), OUTLINES), 0);
+}
+
+// It takes the form by value, since letting one go in an arm of a match is very dear to prove.
+fn is_event(form: Option<Form>, want: &str) -> bool {
+    match &form {
+        Some(Form::Event(name)) => name.as_str() == want,
+        _ => false,
+    }
+}
+
+fn is_event_of(alloc: Global, datum: &Value, want: &str) -> bool {
+    match form_of(alloc, datum) {
+        Ok(form) => is_event(form, want),
+        Err(_) => false,
+    }
+}
+
+fn reads_as_event(alloc: Global, text: &[u8], want: &str) -> bool {
+    match read_one(alloc, text) {
+        Ok(datum) => is_event_of(alloc, &datum, want),
+        Err(_) => false,
+    }
+}
+
+#[test]
+fn a_form_and_a_keyword_are_found(rt: HostRuntime) {
+    assert!(rt; reads_as_event(rt.alloc(), b"(define-event hit)", "hit"));
+    assert!(rt; keyword_named("let*") == Some(Keyword::LetStar));
+}
