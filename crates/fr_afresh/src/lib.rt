@@ -6,7 +6,5 @@ mod evaluation;
 mod places;
 mod running;
 mod sources;
-#[cfg(test)]
-mod tests;
 
 pub use running::{Afresh, AfreshStop, FirstBad};

@@ -234,8 +234,4 @@ pub fn frtime<S: Shelf, O: Sink, E: Sink>(
 }
 
 #[cfg(test)]
-mod afresh_tests;
-#[cfg(test)]
-mod check_tests;
-#[cfg(test)]
 mod tests;

@@ -139,6 +139,3 @@ impl Engine {
         Ok(text)
     }
 }
-
-#[cfg(test)]
-mod tests;

@@ -135,6 +135,3 @@ pub fn read_script(
         None => Ok(None),
     }
 }
-
-#[cfg(test)]
-mod tests;

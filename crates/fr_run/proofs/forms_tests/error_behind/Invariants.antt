@@ -1,6 +1,0 @@
-use Rattle.fr_core.specs.WellFormed.{IsWellFormed}
-use Rattle.fr_afresh.specs.Stands.{program_of}
-use Rattle.fr_run.proofs.forms_tests.error_behind.Given as goal
-
-abbrev pub invariant-instants : goal.invariant-instants
-invariant-instants l = IsWellFormed (program_of l.at)
