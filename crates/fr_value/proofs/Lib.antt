@@ -1,4 +1,5 @@
 pub mod Lists
 pub mod Meet
-pub mod Parts
+pub mod Measured
+pub mod Items
 pub mod Equal
