@@ -2,4 +2,5 @@ pub mod Lists
 pub mod Meet
 pub mod Measured
 pub mod Items
+pub mod Gets
 pub mod Equal

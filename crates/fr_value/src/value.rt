@@ -535,7 +535,8 @@ impl List {
         ensures ok { IfOk result (λ l. (l ≡ datum_of item.now ∷ rest.now) × AreFew (datum_of item.now ∷ rest.now)) }
         ensures too_big { result ≡ Err ListRefusal.TooBig → AreFew (datum_of item.now ∷ rest.now) → ⊥ }
     {
-        if item.size() > (MAX_SIZE - rest.size()) as u64 || item.depth() + 1 > MAX_DEPTH {
+        let (_, size, _) = rest.measure();
+        if item.size() > (MAX_SIZE - size) as u64 || item.depth() + 1 > MAX_DEPTH {
             return Err(ListRefusal::TooBig);
         }
         Ok(few_cons(alloc, item.share()?, rest)?)
@@ -602,6 +603,13 @@ fn few_of_vec(alloc: Global, items: Vec<Value>) -> Result<List, AllocError>
     block_of(alloc, items, more)
 }
 
+/// The item at an index, which counts from 0; None where there is no such item.
+fn nth(items: &[Value], at: usize) -> Option<&Value>
+    ensures { option_map datum_of (option_copied result) ≡ slice_get (data_of items.now) at }
+{
+    items.get(at)
+}
+
 impl Tree {
     /// The item at an index, which counts from 0; None where there is no such item.
     fn get(&self, at: usize) -> Option<&Value>
@@ -613,7 +621,7 @@ impl Tree {
         let at = at - 1;
         let near = self.chunk.len();
         if at < near {
-            return self.chunk.get(at);
+            return nth(&self.chunk, at);
         }
         match &self.kids {
             Kids::Zero => None,
