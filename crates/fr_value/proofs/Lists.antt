@@ -14,7 +14,7 @@ pub record Split (vs : List Value) (i size depth : ℕ) : Type 0 where
   pub one : 1 ≤ depth
   pub deep : max depth (1 + greatest (map datum_depth (rest_of vs i))) ≡ data_depth (data_of vs)
 
-at_front : (vs : List Value) (i : ℕ) (v : Value) → i < length vs → v ≡ get_or vs i v → rest_of vs i ≡ datum_of v ∷ rest_of vs (i + 1)
+pub at_front : (vs : List Value) (i : ℕ) (v : Value) → i < length vs → v ≡ get_or vs i v → rest_of vs i ≡ datum_of v ∷ rest_of vs (i + 1)
 at_front vs i v h e = rw (add-one, drop-cons vs i v h) (ap (λ w. datum_of w ∷ data_of (drop (suc i) vs)) (sym e))
 
 pub step : (vs : List Value) (i size depth : ℕ) → i < length vs → Split vs i size depth → (v : Value) → v ≡ get_or vs i v → Split vs (i + 1) (size + value_size v) (max depth (value_depth v + 1))

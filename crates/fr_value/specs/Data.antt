@@ -1,5 +1,5 @@
 -- Values as plain data, and their size and depth.
-use Rattle.std.specs.Prelude.{ℕ, ◌+◌, ◌≤◌, ◌≡◌, List, [], ◌∷◌, ◌++◌, map, length, max, Option, Some, None}
+use Rattle.std.specs.Prelude.{ℕ, ◌+◌, ◌≤◌, ◌≡◌, List, [], ◌∷◌, ◌++◌, map, length, drop, max, Option, Some, None}
 use Rattle.fr_value.specs.declared.value.Datum.{Datum, fold-Datum, fold-roll-Datum, out-Datum, out-roll-Datum, roll-out-Datum}
 use Rattle.fr_value.specs.declared.value.Datum.TheFolds.{map-Datum}
 use Rattle.fr_value.specs.declared.value.Datum.TheOpen.{Datum-F}
@@ -190,3 +190,7 @@ AreFew ds = (data_size ds ≤ 1048576) × (data_depth ds ≤ 64)
 abbrev pub behind : List Datum → Option (List Datum)
 behind [] = None
 behind (d ∷ ds) = Some ds
+
+-- a value stands at an index, and these values right behind it
+abbrev pub IsRun : List Datum → ℕ → Value → List Value → Type 0
+IsRun ds at v vs = drop at ds ≡ datum_of v ∷ (data_of vs ++ drop (at + 1 + length vs) ds)

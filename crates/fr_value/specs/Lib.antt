@@ -2,4 +2,5 @@ pub mod Bytes
 pub mod Data
 pub mod DataFalls
 pub mod Grammar
+pub mod Text
 pub mod Same

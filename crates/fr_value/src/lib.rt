@@ -7,12 +7,12 @@ mod ids;
 mod name;
 mod now;
 mod primitive;
-
+mod text;
 mod value;
 
 pub use ids::{EraId, FunId, KernId, NodeId, SiteId, SrcId, VarId};
 pub use name::Name;
 pub use now::{Bad, Held, Now};
 pub use primitive::Primitive;
-
+pub use text::text_into;
 pub use value::{Datum, List, ListRefusal, Value, same};

@@ -1,6 +1,6 @@
 ghost use Rattle.std.specs.Prelude.{◌≡◌, ℕ, ◌+◌, ◌≤◌, ◌<◌, ◌^◌, ◌↔◌, [], ◌∷◌, IfOk, IsTrue, length, slice_get, Some, MatchOption, OnOk, ◌++◌, Err};
 ghost use Rattle.std.specs.Option.{option_copied, option_map};
-ghost use Rattle.fr_value.specs.Data.{data_of, data_size, data_depth, datum_of, value_size, value_depth, AreFew, IsMeasured, behind, tree_data, kids_data, more_data, seen};
+ghost use Rattle.fr_value.specs.Data.{data_of, data_size, data_depth, datum_of, value_size, value_depth, AreFew, IsMeasured, behind, tree_data, kids_data, more_data, seen, IsRun};
 ghost use Rattle.fr_value.specs.Same.{is_same};
 
 use crate::name::Name;
@@ -673,6 +673,72 @@ impl List {
         match self.get(at) {
             Some(v) => v,
             None => unreachable!(),
+        }
+    }
+}
+
+/// The item at an index, and the items behind it.
+fn run_of(items: &[Value], at: usize) -> (&Value, &[Value])
+    requires { at < length items.now }
+    ensures { IsRun (data_of items.now) at result.0.now result.1.now }
+{
+    (&items[at], &items[at + 1..])
+}
+
+impl Tree {
+    /// The item at an index, and items right behind it.
+    fn run(&self, at: usize) -> (&Value, &[Value])
+        requires { at < length (tree_data self.now) }
+        ensures { IsRun (tree_data self.now) at result.0.now result.1.now }
+    {
+        if at == 0 {
+            return (&self.item, &self.chunk);
+        }
+        let at = at - 1;
+        let near = self.chunk.len();
+        if at < near {
+            return run_of(&self.chunk, at);
+        }
+        match &self.kids {
+            Kids::Zero => unreachable!(),
+            Kids::Two(a, b) => {
+                let len = a.len() as usize;
+                if at - near < len {
+                    a.run(at - near)
+                } else {
+                    b.run(at - near - len)
+                }
+            }
+        }
+    }
+}
+
+impl List {
+    /// The item at an index, which counts from 0, and items right behind it, as many as lie side by side.
+    pub fn run(&self, at: usize) -> (&Value, &[Value])
+        requires { at < length self.now }
+        ensures { IsRun self.now at result.0.now result.1.now }
+    {
+        match &self.block {
+            None => unreachable!(),
+            Some(b) => {
+                let near = b.front.len();
+                if at < near {
+                    return run_of(&b.front, at);
+                }
+                let at = at - near;
+                match &b.more {
+                    More::Zero => unreachable!(),
+                    More::Row(tree, rest) => {
+                        let len = tree.len() as usize;
+                        if at < len {
+                            tree.run(at)
+                        } else {
+                            rest.run(at - len)
+                        }
+                    }
+                }
+            }
         }
     }
 }
