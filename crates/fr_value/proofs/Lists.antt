@@ -58,10 +58,3 @@ item_smaller (w ∷ vs) (suc i) v h e = omega (arith, item_smaller vs i v (omega
 -- what is left of a list within the limits is within them
 pub few_tail : (vs : List Value) (v : Value) (tail : List Value) → AreFew (data_of vs) → vs ≡ v ∷ tail → AreFew (data_of tail)
 few_tail vs v tail few e = few_behind tail v (subst (λ x. AreFew (data_of x)) e few)
-
--- the first item, and a list of the others, are smaller
-pub first_smaller : (vs : List Value) (v : Value) (tail : List Value) → vs ≡ v ∷ tail → value_size v + 1 ≤ data_size (data_of vs)
-first_smaller vs v tail e = omega (arith, size-of v, ap (λ x. data_size (data_of x)) e)
-
-pub others_smaller : (vs : List Value) (v : Value) (tail : List Value) → vs ≡ v ∷ tail → data_size (data_of tail) ≤ data_size (data_of vs)
-others_smaller vs v tail e = omega (arith, ap (λ x. data_size (data_of x)) e)

@@ -1,9 +1,9 @@
 -- Items that stand side by side.
-use Rattle.std.proofs.Common.{◌≡◌, ℕ, ◌+◌, ◌-◌, ◌≤◌, ◌<◌, List, [], ◌∷◌, ◌++◌, length, drop, take, get_or, arith, sym, ap, ◌∙◌, subst, refl, zero, suc, append_assoc, length-append}
-use Rattle.std.proofs.lemmas.List.{length-map, length-drop, drop-append-le, drop_all, take_all, append-nil, drop-map}
+use Rattle.std.proofs.Common.{◌≡◌, ℕ, ◌+◌, ◌-◌, ◌≤◌, ◌<◌, List, [], ◌∷◌, ◌++◌, length, drop, take, get_or, arith, sym, ap, ◌∙◌, subst, zero, suc, append_assoc, length-append}
+use Rattle.std.proofs.lemmas.List.{length-map, length-drop, drop-append-le, drop_all, take_all, append-nil, drop-map, take-append-drop}
 use Rattle.fr_value.specs.declared.value.Value.{Value}
 use Rattle.fr_value.specs.declared.value.Datum.{Datum}
-use Rattle.fr_value.specs.Data.{datum_of, data_of, tree_data, IsRun}
+use Rattle.fr_value.specs.Data.{datum_of, data_of, data_size, total-append, tree_data, IsRun}
 use Rattle.fr_value.proofs.Lists.{at_front}
 
 none_left : (ks : List Datum) (n : ℕ) → n ≡ 0 → drop n ks ≡ ks
@@ -82,3 +82,8 @@ part_bound fs ms xs ys ds at n m e s l h w k b = omega (arith, ap length e, ap l
 
 pub part_shorter : (fs ms xs ys ds : List Datum) → fs ++ ms ≡ ds → ms ≡ xs ++ ys → length xs + length ys ≤ length ds
 part_shorter fs ms xs ys ds e s = omega (arith, ap length e, ap length s, length-append fs ms, length-append xs ys)
+
+-- the items of a run are not more than the list's
+pub run_smaller : (ds : List Datum) (at : ℕ) (v : Value) (vs : List Value) → IsRun ds at v vs → data_size (data_of (v ∷ vs)) ≤ data_size ds
+run_smaller ds at v vs r =
+    omega (arith, ap data_size r, ap data_size (take-append-drop at ds), total-append (take at ds) (drop at ds), total-append (data_of vs) (drop (at + 1 + length vs) ds))

@@ -433,7 +433,12 @@ fn block_of(alloc: Global, front: Vec<Value>, more: More) -> Result<List, AllocE
 }
 
 /// The tree of an item, then the items of a vector, then those of two trees.
-fn tree_of(alloc: Global, item: Value, chunk: Vec<Value>, kids: Kids) -> Result<Rc<Tree>, AllocError>
+fn tree_of(
+    alloc: Global,
+    item: Value,
+    chunk: Vec<Value>,
+    kids: Kids,
+) -> Result<Rc<Tree>, AllocError>
     requires { AreFew (datum_of item ∷ (data_of chunk.items ++ kids_data kids)) }
     ensures { IfOk result (λ t. t.value ≡ (datum_of item, data_of chunk.items ++ kids_data kids)) }
 {
@@ -549,7 +554,11 @@ impl List {
         match &self.block {
             None => Ok(None),
             Some(b) => match b.front.split_first() {
-                Some((_, tail)) => Ok(Some(block_of(alloc, shared(alloc, tail)?, b.more.share()?)?)),
+                Some((_, tail)) => Ok(Some(block_of(
+                    alloc,
+                    shared(alloc, tail)?,
+                    b.more.share()?,
+                )?)),
                 None => match &b.more {
                     More::Zero => Ok(None),
                     More::Row(tree, rest) => Ok(Some(without_root(alloc, tree, rest)?)),

@@ -1,4 +1,3 @@
-use Rattle.std.proofs.Common.{◌++◌, ◌∷◌}
 use Rattle.fr_value.specs.Data.{datum_of, data_of, kids_data, more_data}
 use Rattle.fr_value.proofs.Measured.{few_parts, few_behind, few_regroup}
 use Rattle.fr_value.proofs.value.row_of.Goals as goal

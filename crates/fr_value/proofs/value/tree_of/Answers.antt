@@ -1,5 +1,5 @@
-use Rattle.std.proofs.Common.{◌++◌, arith}
-use Rattle.fr_value.specs.Data.{IsMeasured, data_of, kids_data}
+use Rattle.std.proofs.Common.{arith}
+use Rattle.fr_value.specs.Data.{data_of, kids_data}
 use Rattle.fr_value.proofs.Measured.{len_small, item_small, few_parts, few_behind, measured-append, measured-cons}
 use Rattle.fr_value.proofs.value.tree_of.Goals as goal
 

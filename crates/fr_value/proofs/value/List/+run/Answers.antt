@@ -1,7 +1,7 @@
-use Rattle.std.proofs.Common.{◌≡◌, ◌<◌, ◌++◌, ◌-◌, length, arith, ap, sym, ◌∙◌}
+use Rattle.std.proofs.Common.{◌<◌, ◌-◌, length, arith, ap, sym, ◌∙◌}
 use Rattle.std.proofs.lemmas.List.{length-map}
 use Rattle.std.specs.Option.{option_map}
-use Rattle.fr_value.specs.Data.{datum_of, data_of, tree_data, more_data, list_data, IsRun}
+use Rattle.fr_value.specs.Data.{datum_of, data_of, tree_data, more_data, list_data}
 use Rattle.fr_value.proofs.Runs.{part_one, part_two, part_three, part_bound, part_shorter}
 use Rattle.fr_value.proofs.value.List.+run.Goals as goal
 

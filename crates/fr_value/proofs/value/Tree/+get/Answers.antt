@@ -7,7 +7,7 @@ use Rattle.fr_value.proofs.value.Tree.+get.Goals as goal
 pub returns-then-at-near : goal.returns-then-at-near
 returns-then-at-near t c =
     let near = tree_near c.args.self.now (datum_of c.self.inside.item) (data_of c.self.inside.chunk.items) (kids_data c.self.inside.kids) c.args.at c.self.view_is
-        (omega (arith, c.if-at-eq0.false)) (omega (arith, c.if-at-near.true, c.len-near.ensures, length-map c.self.inside.chunk.items datum_of)) in
+    (omega (arith, c.if-at-eq0.false)) (omega (arith, c.if-at-near.true, c.len-near.ensures, length-map c.self.inside.chunk.items datum_of)) in
     rw c.deref.ensures.value at c.nth.ensures ∙ near
 
 pub returns-in-Zero : goal.returns-in-Zero

@@ -1,4 +1,4 @@
-use Rattle.std.proofs.Common.{◌≡◌, ◌<◌, ◌++◌, ◌-◌, length, arith, ap, refl, subst, sym}
+use Rattle.std.proofs.Common.{◌≡◌, ◌<◌, ◌-◌, length, arith, ap, refl, subst, sym}
 use Rattle.std.proofs.lemmas.List.{length-map}
 use Rattle.fr_value.specs.Data.{datum_of, data_of, tree_data, kids_data, IsRun}
 use Rattle.fr_value.proofs.Runs.{run_root, tree_run, part_one, part_two, part_three, part_bound, part_shorter}
