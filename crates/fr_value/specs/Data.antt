@@ -116,6 +116,11 @@ pub datum_positive : (d : Datum) → 1 ≤ datum_size d
 unfolding datum_size
 datum_positive d = subst (λ e. 1 ≤ fold-Datum ℕ size_step e) (roll-out-Datum d) (subst (λ n. 1 ≤ n) (sym (fold-roll-Datum ℕ size_step (out-Datum d))) (step_positive (map-Datum Datum ℕ (fold-Datum ℕ size_step) (out-Datum d))))
 
+-- there are no more items than their sizes together
+pub length_small : (ds : List Datum) → length ds + 1 ≤ data_size ds
+length_small [] = omega arith
+length_small (d ∷ ds) = omega (arith, datum_positive d, length_small ds)
+
 pub total-append : (xs ys : List Datum) → total (map datum_size (xs ++ ys)) ≡ total (map datum_size xs) + total (map datum_size ys)
 total-append [] ys = omega arith
 total-append (x ∷ xs) ys = omega (arith, total-append xs ys)

@@ -844,8 +844,10 @@ impl List {
 
     /// One more owner of each item, in their order.
     pub fn to_vec(&self, alloc: Global) -> Result<Vec<Value>, AllocError>
-        ensures { IfOk result (λ v. data_of v.items ≡ self.now) }
+        ensures value { IfOk result (λ v. data_of v.items ≡ self.now) }
+        ensures few { AreFew self.now }
     {
+        let _ = &self.block;
         let mut all = Vec::new(alloc);
         self.shared_into(&mut all)?;
         Ok(all)

@@ -1,7 +1,6 @@
 use Rattle.std.proofs.Common.{arith}
 use Rattle.std.proofs.lemmas.List.{length-map}
-use Rattle.fr_value.specs.Data.{data_of, datum_of}
-use Rattle.fr_value.proofs.Measured.{length_small}
+use Rattle.fr_value.specs.Data.{data_of, datum_of, length_small}
 use Rattle.fr_value.proofs.value.measure_few.Goals as goal
 
 pub overflow_cast-result : goal.overflow_cast-result
