@@ -1,13 +1,14 @@
 -- Lists within the limits, and beyond them.
-use Rattle.std.specs.Prelude.{ℕ, ◌+◌, ◌<◌, ◌≡◌, Bool, true, false, nat_le, List, [], ◌∷◌, ◌++◌, map, max, reverse, Option, Some, None, Ok, Err, length, drop, get_or, suc}
+use Rattle.std.specs.Prelude.{ℕ, ◌+◌, ◌<◌, ◌≡◌, Bool, true, false, nat_le, List, [], ◌∷◌, ◌++◌, map, max, reverse, Option, Some, None, Ok, Err, length, drop, get_or, slice_get, suc}
 use mathlib.Core.List.{reverse_aux}
 use Rattle.std.proofs.Common.{refl, sym, ◌∙◌, ap, subst, arith, add-one, drop-cons}
 use Rattle.std.proofs.lemmas.Bool.{and_parts, le-leb, leb-true, lt-leb}
+use Rattle.std.proofs.lemmas.Option.{slice_get_within}
 use Rattle.fr_value.specs.declared.value.Datum.{Datum}
 use Rattle.fr_value.specs.declared.value.Value.{Value}
 use Rattle.fr_value.specs.declared.value.Value.TheVariants as value
 use Rattle.fr_value.specs.declared.now.Bad.TheVariants.{Empty, TooBig}
-use Rattle.fr_value.specs.Data.{data_of, datum_of, value_of-datum_of, data_size, data_depth, datum_size, datum_depth, total, greatest, AreFew, behind}
+use Rattle.fr_value.specs.Data.{data_of, datum_of, value_of, value_of-datum_of, data_size, data_depth, datum_size, datum_depth, total, greatest, AreFew, behind}
 use Rattle.fr_prims.specs.Data.{few, list_answer, car, cdr, item_answer, joined, items_of}
 
 never : (b : Bool) → (b ≡ true → ⊥) → b ≡ false
@@ -51,15 +52,17 @@ few_reversed : (ds : List Datum) → AreFew ds → AreFew (reverse ds)
 few_reversed ds h = (omega (arith, size_onto ds [], h.0), omega (arith, depth_onto ds [], h.1))
 
 -- the reverse of a list within the limits is within them
-pub answer_reversed : (vs : List Value) → AreFew (data_of vs) → list_answer (data_of (reverse vs)) ≡ Ok (value.List (reverse (data_of vs)))
-answer_reversed vs h = rw (data_of-reverse vs) (answer_few (reverse (data_of vs)) (few_reversed (data_of vs) h))
+pub answer_reversed : (vs : List Value) (ds : List Datum) → data_of vs ≡ ds → AreFew ds → list_answer (data_of (reverse vs)) ≡ Ok (value.List (reverse ds))
+answer_reversed vs ds e h = ap list_answer (data_of-reverse vs ∙ ap reverse e) ∙ answer_few (reverse ds) (few_reversed ds h)
 
 -- the first item of a list
-pub car_first : (ds : List Datum) (vs ws : List Value) (v : Value) → data_of vs ≡ ds → vs ≡ v ∷ ws → car ds ≡ Ok v
-car_first ds vs ws v h e = ap car (sym h ∙ ap data_of e) ∙ ap Ok (value_of-datum_of v)
+pub car_first : (ds : List Datum) (v : Value) → Some (datum_of v) ≡ slice_get ds 0 → car ds ≡ Ok v
+car_first [] v h = absurd (omega (arith, slice_get_within [] 0 (datum_of v) (sym h)))
+car_first (d ∷ ds) v h = sym (ap (λ o. elim o [ Some x ↦ Ok (value_of x) | None ↦ Err Empty ]) h) ∙ ap Ok (value_of-datum_of v)
 
-pub car_none : (ds : List Datum) (vs : List Value) → data_of vs ≡ ds → vs ≡ [] → car ds ≡ Err Empty
-car_none ds vs h e = ap car (sym h ∙ ap data_of e)
+pub car_none : (ds : List Datum) → None ≡ slice_get ds 0 → car ds ≡ Err Empty
+car_none [] h = refl
+car_none (d ∷ ds) h = absurd (subst (λ o. elim o as (λ o. Type 0) [ Some x ↦ ⊥ | None ↦ Unit {0} ]) h tt)
 
 -- the list behind the first item
 pub cdr_behind : (ds es : List Datum) → Some es ≡ behind ds → cdr ds ≡ Ok (value.List es)

@@ -61,7 +61,7 @@ fn shared(value: &Value) -> Result<Answer, AllocError>
 fn first_item(list: &List) -> Result<Answer, AllocError>
     ensures { IfOk result (λ r. r ≡ car_of list.now) }
 {
-    let Some((first, _)) = list.items().split_first() else {
+    let Some(first) = list.get(0) else {
         return Ok(Err(Bad::Empty));
     };
     shared(first)
@@ -98,25 +98,23 @@ pub(crate) fn cdr(alloc: Global, args: &[Value]) -> Result<Answer, AllocError>
     }
 }
 
+fn count(list: &List) -> i64
+    ensures { result ≡ pos (length list.now) }
+{
+    // a list has fewer items than its size, which is within a limit
+    let _ = list.size();
+    list.len() as i64
+}
+
 /// The number of items of the one argument.
 pub(crate) fn length_of(args: &[Value]) -> Answer
     ensures { result ≡ one (on_list (λ ds. Ok (value.Int (pos (length ds))))) args.now }
 {
     match args {
-        [Value::List(list)] => Ok(Value::Int(list.items().len() as i64)),
+        [Value::List(list)] => Ok(Value::Int(count(list))),
         [_] => Err(Bad::WrongType),
         _ => Err(Bad::Arity),
     }
-}
-
-/// Appends one more owner of each item.
-fn push_shared(all: &mut Vec<Value>, items: &[Value]) -> Result<(), AllocError>
-    ensures { OnOk result (all.new.items ≡ all.old.items ++ items.now) }
-{
-    for item in items {
-        all.push(item.share()?)?;
-    }
-    Ok(())
 }
 
 /// The size of a list's items, and 0 for anything else.
@@ -152,7 +150,7 @@ fn push_lists(all: &mut Vec<Value>, lists: &[Value]) -> Result<(), AllocError>
 {
     for value in lists {
         if let Value::List(list) = value {
-            push_shared(all, list.items())?;
+            list.shared_into(all)?;
         }
     }
     Ok(())
@@ -183,8 +181,7 @@ pub(crate) fn append(alloc: Global, args: &[Value]) -> Result<Answer, AllocError
 fn turned(alloc: Global, list: &List) -> Result<Answer, AllocError>
     ensures { IfOk result (λ r. r ≡ Ok (value.List (reverse list.now))) }
 {
-    let mut all = Vec::new(alloc);
-    push_shared(&mut all, list.items())?;
+    let mut all = list.to_vec(alloc)?;
     all.reverse();
     list_of(alloc, all)
 }

@@ -1,10 +1,11 @@
 -- Forms by their outermost lists, and the expressions that they are with their parts.
-use Rattle.std.specs.Prelude.{ℕ, List, [], ◌∷◌, Option, Some}
+use Rattle.std.specs.Prelude.{ℕ, ◌≡◌, List, [], ◌∷◌, Option, Some}
 use Rattle.std.specs.Borrow.{Bor}
 use Rattle.std.specs.Option.{option_map, option_and_then}
 use Rattle.fr_value.specs.Data.{datum_of, data_of}
 use Rattle.fr_value.specs.declared.value.Datum.{Datum}
 use Rattle.fr_value.specs.declared.value.Value.{Value}
+use Rattle.fr_value.specs.declared.value.Value.TheVariants as value
 use Rattle.fr_syntax.specs.declared.expr.Expr.{Expr}
 use Rattle.fr_syntax.specs.declared.expr.Expr.TheVariants as expr
 use Rattle.fr_syntax.specs.declared.layouts.Layout.{Layout}
@@ -30,6 +31,14 @@ datum_at v = datum_of v.now
 
 abbrev pub data_at : Bor (List Value) → List Datum
 data_at vs = data_of vs.now
+
+abbrev pub listed_at : Bor (List Datum) → List Datum
+listed_at l = l.now
+
+-- these are the items of the list that a value is
+abbrev pub AreItems : Value → List Value → Type 0
+AreItems (value.List ds) vs = data_of vs ≡ ds
+AreItems v vs = Unit {0}
 
 abbrev pub two_at : Bor Value × Bor Value → Datum × Datum
 two_at x = (datum_of x.0.now, datum_of x.1.now)
@@ -93,7 +102,7 @@ filled below (layout.One k a) = option_map (single_of k) (below (datum_at a))
 filled below (layout.Two k a b) = option_map (λ x. double_of k x.0 x.1) (both below (two_at (a, b)))
 filled below (layout.Three k a b c) = option_map (λ x. triple_of k x.0 x.1 x.2) (all_three below (three_at (a, b, c)))
 filled below (layout.Many k vs) = option_map (many_of k) (each below (data_at vs))
-filled below (layout.Bindings k bs body) = option_map (λ x. binder_of k x.0.0 x.0.1 x.1) (bound below (data_at bs) (datum_at body))
+filled below (layout.Bindings k bs body) = option_map (λ x. binder_of k x.0.0 x.0.1 x.1) (bound below (listed_at bs) (datum_at body))
 filled below (layout.Cond cs) = option_map (λ x. expr.Cond x.0.0 x.0.1 x.1) (cond_parts below (data_at cs))
 
 -- the expression of one value, the expressions of two
@@ -108,8 +117,8 @@ abbrev pub named_in : Below → Bor (List ℕ) × Bor Value → Option (List ℕ
 named_in below x = option_map (λ e. (x.0.now, e)) (below (datum_at x.1))
 
 -- the parameters and the body of a `lambda`
-abbrev pub lambda_in : Below → Bor (List Value) × Bor Value → Option (List (List ℕ) × Expr)
-lambda_in below x = option_and_then (λ ps. option_map (λ b. (ps, b)) (below (datum_at x.1))) (symbols (data_at x.0))
+abbrev pub lambda_in : Below → Bor (List Datum) × Bor Value → Option (List (List ℕ) × Expr)
+lambda_in below x = option_and_then (λ ps. option_map (λ b. (ps, b)) (below (datum_at x.1))) (symbols (listed_at x.0))
 
 -- two names, and the expression behind them
 abbrev pub two_named_in : Below → Bor (List ℕ) × Bor (List ℕ) × Bor Value → Option (List ℕ × List ℕ × Expr)

@@ -6,7 +6,7 @@ ghost use Rattle.fr_value.specs.Data.{datum_of};
 ghost use Rattle.fr_syntax.specs.Shapes.{Below, binding, lone_binding};
 ghost use Rattle.fr_syntax.specs.Layouts.{named_in};
 
-use crate::lists::{items_of, one_in, pair_of};
+use crate::lists::{list_of, lone_of, pair_of};
 use crate::outlines::symbol_of;
 use fr_value::{Name, Value};
 
@@ -22,5 +22,5 @@ pub(crate) fn binding(v: &Value) -> Option<(&Name, &Value)>
 pub(crate) fn lone_binding(v: &Value) -> Option<(&Name, &Value)>
     ensures { (below : Below) → option_and_then (named_in below) result ≡ lone_binding below (datum_of v.now) }
 {
-    binding(one_in(items_of(v)?)?)
+    binding(lone_of(list_of(v)?)?)
 }

@@ -9,9 +9,10 @@ use crate::bindings::binding;
 use crate::clauses::{else_part, test_parts};
 use crate::expr::Expr;
 use crate::layouts::{Layout, cond_with};
+use crate::lists::items_of;
 use crate::openings::layout_of;
 use crate::parts::{both, named, push_both};
-use fr_value::{Name, Value};
+use fr_value::{List, Name, Value};
 use sqlite_items::Items;
 use std::alloc::{AllocError, Global};
 
@@ -26,7 +27,8 @@ pub(crate) fn expr(alloc: Global, levels: u32, v: &Value) -> Result<Option<Expr>
     if levels == 0 {
         return Ok(None);
     }
-    match layout_of(v) {
+    let items = items_of(alloc, v)?;
+    match layout_of(v, &items) {
         Some(layout) => filled(alloc, levels - 1, layout),
         None => Ok(None),
     }
@@ -127,12 +129,12 @@ fn bindings(
 fn bound(
     alloc: Global,
     levels: u32,
-    list: &[Value],
+    list: &List,
     body: &Value,
 ) -> Result<Option<((Items<Name>, Items<Expr>), Expr)>, AllocError>
-    ensures { IfOk result (λ x. x ≡ bound (expr_to levels) (data_of list.now) (datum_of body.now)) }
+    ensures { IfOk result (λ x. x ≡ bound (expr_to levels) list.now (datum_of body.now)) }
 {
-    match bindings(alloc, levels, list)? {
+    match bindings(alloc, levels, &list.to_vec(alloc)?)? {
         Some(found) => both(found, expr(alloc, levels, body)),
         None => Ok(None),
     }

@@ -1,6 +1,6 @@
 #![tactic(auto, using(crate::proofs::Opened::opened))]
 
-ghost use Rattle.std.specs.Prelude.{◌≡◌, List, ℕ};
+ghost use Rattle.std.specs.Prelude.{◌≡◌, List as PlainList, ℕ};
 ghost use Rattle.std.specs.Option.{option_and_then};
 ghost use Rattle.fr_value.specs.Data.{datum_of, data_of};
 ghost use Rattle.fr_value.specs.declared.value.Datum.{Datum};
@@ -9,9 +9,9 @@ ghost use Rattle.fr_syntax.specs.Shapes.{Below, lambda_with, lambda_of, one_para
 ghost use Rattle.fr_syntax.specs.Layouts.{named_in, lambda_in, two_named_in, handled, collected};
 
 use crate::keyword::Keyword;
-use crate::lists::{items_of, one_in, three_in, two_in};
+use crate::lists::{both_of, list_of, lone_of, three_in, three_of, two_in};
 use crate::outlines::{keyword_of, symbol_of};
-use fr_value::{Name, Value};
+use fr_value::{List, Name, Value};
 
 /// A handler of one parameter and its event.
 pub(crate) struct Handler<'a> {
@@ -31,7 +31,7 @@ pub(crate) struct Collector<'a> {
 
 /// The parts of `(lambda (PAYLOAD) BODY) EVENT`.
 pub(crate) fn handler_in(items: &[Value]) -> Option<Handler<'_>>
-    ensures { (below : Below) → (make : List ℕ → Shaped → Shaped → Shaped) → option_and_then (handled below make) result ≡ event_handler_form below make (data_of items.now) }
+    ensures { (below : Below) → (make : PlainList ℕ → Shaped → Shaped → Shaped) → option_and_then (handled below make) result ≡ event_handler_form below make (data_of items.now) }
 {
     let (lambda, event) = two_in(items)?;
     let (payload, body) = one_param(lambda)?;
@@ -44,7 +44,7 @@ pub(crate) fn handler_in(items: &[Value]) -> Option<Handler<'_>>
 
 /// The parts of `EVENT INIT (lambda (PAYLOAD STATE) BODY)`.
 pub(crate) fn collector_in(items: &[Value]) -> Option<Collector<'_>>
-    ensures { (below : Below) → (make : Shaped → Shaped → List ℕ → List ℕ → Shaped → Shaped) → option_and_then (collected below make) result ≡ collect_form below make (data_of items.now) }
+    ensures { (below : Below) → (make : Shaped → Shaped → PlainList ℕ → PlainList ℕ → Shaped → Shaped) → option_and_then (collected below make) result ≡ collect_form below make (data_of items.now) }
 {
     let (event, first, lambda) = three_in(items)?;
     let (payload, state, body) = two_params(lambda)?;
@@ -62,7 +62,7 @@ fn one_param(v: &Value) -> Option<(&Name, &Value)>
     ensures { (below : Below) → option_and_then (named_in below) result ≡ option_and_then one_param (lambda_of below (datum_of v.now)) }
 {
     let (params, body) = lambda_of(v)?;
-    Some((symbol_of(one_in(params)?)?, body))
+    Some((symbol_of(lone_of(params)?)?, body))
 }
 
 /// The parameters and the body of a `lambda` of two parameters.
@@ -70,15 +70,15 @@ fn two_params(v: &Value) -> Option<(&Name, &Name, &Value)>
     ensures { (below : Below) → option_and_then (two_named_in below) result ≡ option_and_then two_params (lambda_of below (datum_of v.now)) }
 {
     let (params, body) = lambda_of(v)?;
-    let (payload, state) = two_in(params)?;
+    let (payload, state) = both_of(params)?;
     Some((symbol_of(payload)?, symbol_of(state)?, body))
 }
 
 /// The list of parameters and the body of `(lambda (PARAM ...) BODY)`.
-fn lambda_of(v: &Value) -> Option<(&[Value], &Value)>
+fn lambda_of(v: &Value) -> Option<(&List, &Value)>
     ensures { (below : Below) → option_and_then (lambda_in below) result ≡ lambda_of below (datum_of v.now) }
 {
-    let (head, params, body) = three_in(items_of(v)?)?;
+    let (head, params, body) = three_of(list_of(v)?)?;
     lambda_with(keyword_of(head), params, body)
 }
 
@@ -87,11 +87,11 @@ fn lambda_with<'a>(
     keyword: Option<Keyword>,
     params: &'a Value,
     body: &'a Value,
-) -> Option<(&'a [Value], &'a Value)>
+) -> Option<(&'a List, &'a Value)>
     ensures { (below : Below) → (head : Datum) → option_and_then (lambda_in below) result ≡ lambda_with below keyword (head, datum_of params.now, datum_of body.now) }
 {
     match keyword {
-        Some(Keyword::Lambda) => Some((items_of(params)?, body)),
+        Some(Keyword::Lambda) => Some((list_of(params)?, body)),
         _ => None,
     }
 }

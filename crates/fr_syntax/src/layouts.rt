@@ -5,7 +5,7 @@ ghost use Rattle.fr_syntax.specs.Layouts.{single_of, double_of, triple_of, many_
 
 use crate::expr::Expr;
 use crate::parts::{boxed_beside, named, named_twice, three_boxed, two_boxed};
-use fr_value::{Name, Value};
+use fr_value::{List, Name, Value};
 use sqlite_items::{Boxed, Items};
 use std::alloc::{AllocError, Global};
 
@@ -25,7 +25,7 @@ pub(crate) enum Layout<'a> {
     /// A form of any number of expressions.
     Many(Many<'a>, &'a [Value]),
     /// Bindings and a body.
-    Bindings(Binder, &'a [Value], &'a Value),
+    Bindings(Binder, &'a List, &'a Value),
     /// The clauses of a `cond`.
     Cond(&'a [Value]),
 }

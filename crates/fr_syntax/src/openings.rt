@@ -7,24 +7,25 @@ ghost use Rattle.fr_syntax.specs.declared.expr.Expr.TheVariants as expr;
 ghost use Rattle.fr_value.specs.declared.value.Value.TheVariants as value;
 ghost use Rattle.fr_syntax.specs.Keywords.{keyword_named as named};
 ghost use Rattle.fr_syntax.specs.Shapes.{Below, one_in, one_part, two_parts, three_parts, let_form, fold_form, repeat_form, feedback_form, event_handler_form, collect_form, merge_form, keyword_form, named_form, expr_at};
-ghost use Rattle.fr_syntax.specs.Layouts.{filled, single_of, double_of, triple_of, binder_of};
+ghost use Rattle.fr_syntax.specs.Layouts.{filled, single_of, double_of, triple_of, binder_of, AreItems};
 
 use crate::bindings::{binding, lone_binding};
 use crate::handlers::{Collector, Handler, collector_in, handler_in};
 use crate::keyword::{Keyword, keyword_named};
 use crate::layouts::{Binder, Double, Layout, Many, Single, Triple};
-use crate::lists::{items_of, one_in, three_in, two_in};
+use crate::lists::{list_of, one_in, three_in, two_in};
 use crate::outlines::symbol_of;
 use fr_value::{Name, Value};
 
-/// What an expression is by its outermost list; None where the list is no form by that.
-pub(crate) fn layout_of(v: &Value) -> Option<Layout<'_>>
+/// What an expression is by its outermost list, of these items; None where the list is no form by that.
+pub(crate) fn layout_of<'a>(v: &'a Value, items: &'a [Value]) -> Option<Layout<'a>>
+    requires { AreItems v.now items.now }
     ensures { (below : Below) → option_and_then (filled below) result ≡ expr_at below v.now }
 {
     match v {
         Value::Int(_) | Value::Bool(_) | Value::Str(_) => Some(Layout::Literal(v)),
         Value::Sym(name) => Some(Layout::Name(name)),
-        Value::List(list) => list_layout(list.items()),
+        Value::List(_) => list_layout(items),
     }
 }
 
@@ -110,7 +111,7 @@ fn bound(form: Binder, rest: &[Value]) -> Option<Layout<'_>>
     ensures { (below : Below) → option_and_then (filled below) result ≡ let_form below (binder_of form) (data_of rest.now) }
 {
     let (bindings, body) = two_in(rest)?;
-    Some(Layout::Bindings(form, items_of(bindings)?, body))
+    Some(Layout::Bindings(form, list_of(bindings)?, body))
 }
 
 /// `((ACC INIT)) ((ITEM LIST)) BODY`

@@ -30,7 +30,8 @@ pub fn form_of(alloc: Global, v: &Value) -> Result<Option<Form>, AllocError>
     let Value::List(list) = v else {
         return Ok(None);
     };
-    let Some((head, rest)) = list.items().split_first() else {
+    let items = list.to_vec(alloc)?;
+    let Some((head, rest)) = items.split_first() else {
         return Ok(None);
     };
     form_with(alloc, keyword_of(head), rest)
@@ -96,7 +97,7 @@ fn defined(alloc: Global, head: &Value, body: &Value) -> Result<Option<Form>, Al
     ensures { IfOk result (λ f. f ≡ define_at head.now (datum_of head.now, datum_of body.now)) }
 {
     match head {
-        Value::List(list) => function_form(alloc, list.items(), body),
+        Value::List(list) => function_form(alloc, &list.to_vec(alloc)?, body),
         _ => match named_expr(alloc, head, body)? {
             Some((name, value)) => Ok(Some(Form::Define(name, value))),
             None => Ok(None),

@@ -67,7 +67,7 @@ fn tell_measures(alloc: Global, out: &mut Told, value: &Value) {
         Err(_) => out.lacks(),
     }
     if let Value::List(list) = value {
-        tell_parts(out, list);
+        tell_parts(alloc, out, list);
         tell_rest(alloc, out, list);
     }
 }
@@ -80,9 +80,12 @@ fn tell_item(out: &mut Told, item: Option<&Value>) {
 }
 
 /// The number of items of a list, and the first and the third.
-fn tell_parts(out: &mut Told, list: &List) {
+fn tell_parts(alloc: Global, out: &mut Told, list: &List) {
     out.number(list.len() as u64);
-    out.number(list.items().len() as u64);
+    match list.to_vec(alloc) {
+        Ok(items) => out.number(items.len() as u64),
+        Err(_) => out.lacks(),
+    }
     tell_item(out, list.get(0));
     tell_item(out, list.get(2));
 }
@@ -139,7 +142,10 @@ fn tell_pairs(out: &mut Told, a: &[Value], b: &[Value]) {
 
 pub(crate) fn tell_same(alloc: Global, out: &mut Told, text: &[u8]) {
     match (read_one(alloc, text), read_one(alloc, text)) {
-        (Ok(Value::List(a)), Ok(Value::List(b))) => tell_pairs(out, a.items(), b.items()),
+        (Ok(Value::List(a)), Ok(Value::List(b))) => match (a.to_vec(alloc), b.to_vec(alloc)) {
+            (Ok(a), Ok(b)) => tell_pairs(out, &a, &b),
+            _ => out.lacks(),
+        },
         _ => out.lacks(),
     }
 }
@@ -169,7 +175,11 @@ fn tell_application(alloc: Global, out: &mut Told, datum: &Value) {
     let Value::List(list) = datum else {
         return;
     };
-    if let Some((Value::Sym(name), args)) = list.items().split_first() {
+    let Ok(items) = list.to_vec(alloc) else {
+        out.lacks();
+        return;
+    };
+    if let Some((Value::Sym(name), args)) = items.split_first() {
         match prim_named(name.as_str()) {
             Some(prim) => tell_applied(alloc, out, prim, args),
             None => out.word("no primitive"),

@@ -14,7 +14,7 @@ pub record Split (vs : List Value) (i size depth : ℕ) : Type 0 where
   pub one : 1 ≤ depth
   pub deep : max depth (1 + greatest (map datum_depth (rest_of vs i))) ≡ data_depth (data_of vs)
 
-at_front : (vs : List Value) (i : ℕ) (v : Value) → i < length vs → v ≡ get_or vs i v → rest_of vs i ≡ datum_of v ∷ rest_of vs (i + 1)
+pub at_front : (vs : List Value) (i : ℕ) (v : Value) → i < length vs → v ≡ get_or vs i v → rest_of vs i ≡ datum_of v ∷ rest_of vs (i + 1)
 at_front vs i v h e = rw (add-one, drop-cons vs i v h) (ap (λ w. datum_of w ∷ data_of (drop (suc i) vs)) (sym e))
 
 pub step : (vs : List Value) (i size depth : ℕ) → i < length vs → Split vs i size depth → (v : Value) → v ≡ get_or vs i v → Split vs (i + 1) (size + value_size v) (max depth (value_depth v + 1))
@@ -58,10 +58,3 @@ item_smaller (w ∷ vs) (suc i) v h e = omega (arith, item_smaller vs i v (omega
 -- what is left of a list within the limits is within them
 pub few_tail : (vs : List Value) (v : Value) (tail : List Value) → AreFew (data_of vs) → vs ≡ v ∷ tail → AreFew (data_of tail)
 few_tail vs v tail few e = few_behind tail v (subst (λ x. AreFew (data_of x)) e few)
-
--- the first item, and a list of the others, are smaller
-pub first_smaller : (vs : List Value) (v : Value) (tail : List Value) → vs ≡ v ∷ tail → value_size v + 1 ≤ data_size (data_of vs)
-first_smaller vs v tail e = omega (arith, size-of v, ap (λ x. data_size (data_of x)) e)
-
-pub others_smaller : (vs : List Value) (v : Value) (tail : List Value) → vs ≡ v ∷ tail → data_size (data_of tail) ≤ data_size (data_of vs)
-others_smaller vs v tail e = omega (arith, ap (λ x. data_size (data_of x)) e)

@@ -1,17 +1,38 @@
 -- Texts that are appended piece by piece.
-use Rattle.std.specs.Prelude.{ℕ, suc, zero, ◌+◌, ◌<◌, ◌≡◌, List, [], ◌∷◌, ◌++◌, length, map, take, drop, get_or, Result, Ok, Err, OnErr}
+use Rattle.std.specs.Prelude.{ℕ, suc, zero, ◌+◌, ◌<◌, ◌≤◌, ◌≡◌, List, [], ◌∷◌, ◌++◌, length, map, take, drop, get_or, slice_get, Option, Some, None, Result, Ok, Err, OnOk, OnErr, is_ok, if◌then◌else◌}
 use Rattle.std.proofs.Common.{refl, sym, ◌∙◌, ap, subst, arith, add-one}
-use Rattle.std.proofs.lemmas.List.{append_assoc, append-nil, take-append-drop}
+use Rattle.std.proofs.lemmas.List.{append_assoc, append-nil, take-append-drop, drop_all}
 use Rattle.fr_value.specs.declared.value.Datum.{Datum}
 use Rattle.fr_value.specs.declared.value.Value.{Value}
 use Rattle.fr_value.specs.declared.value.Value.TheVariants as value
-use Rattle.fr_value.specs.Data.{data_of, datum_of}
-use Rattle.fr_value.specs.Text.{escaped_byte, escaped, spaced, datum_text, behind_texts, value_text, text-Int, text-Bool, text-Sym, text-Str, text-Seq, AppendsPart}
+use Rattle.fr_value.specs.Data.{data_of, datum_of, IsRun}
+use Rattle.fr_value.specs.Text.{escaped_byte, escaped, spaced, datum_text, behind_texts, behind_data, value_text, text-Int, text-Bool, text-Sym, text-Str, text-Seq, AppendsPart}
+use Rattle.std.proofs.lemmas.Option.{slice_get_within}
+use Rattle.std.specs.Option.{option_map, option_copied}
+use Rattle.std.specs.Borrow.{Bor}
+use Rattle.fr_value.proofs.Meet.{same_some}
+
+IsGiven : {A : Type 0} → Option A → Type 0
+IsGiven None = ⊥
+IsGiven (Some a) = Unit {0}
+
+some_none : {A : Type 0} (a : A) → Some a ≡ None → ⊥
+unfolding IsGiven
+some_none a h = subst IsGiven h tt
 
 -- a fact holds where a call answers an error
 pub on_err : {T E P : Type 0} (r : Result T E) → P → OnErr r P
 on_err (Ok x) h = tt
 on_err (Err e) h = h
+
+pub on_err_then : {T E P Q : Type 0} (r : Result T E) → (P → Q) → OnErr r P → OnErr r Q
+on_err_then (Ok x) f h = tt
+on_err_then (Err e) f h = f h
+
+-- a fact of what was appended holds where a call answers no error
+pub on_ok_then : {T E : Type 0} (r : Result T E) (new mid more : List ℕ) (P : Type 0) → new ≡ (if is_ok r then mid ++ more else mid) → (new ≡ mid ++ more → P) → OnOk r P
+on_ok_then (Ok x) new mid more P h f = f h
+on_ok_then (Err e) new mid more P h f = tt
 
 -- nothing was appended
 pub part_none : (old new text : List ℕ) → new ≡ old → AppendsPart old new text
@@ -94,26 +115,85 @@ text_of (value.Sym s) = text-Sym s
 text_of (value.Str s) = text-Str s
 text_of (value.List ds) = text-Seq ds
 
+-- the texts of data put together
+pub behind_data-append : (a b : List Datum) → behind_data (a ++ b) ≡ behind_data a ++ behind_data b
+behind_data-append [] b = refl
+behind_data-append (d ∷ a) b = ap (λ x. 32 ∷ datum_text d ++ x) (behind_data-append a b) ∙ sym (append_assoc (32 ∷ datum_text d) (behind_data a) (behind_data b))
+
+-- what was appended and what is left are the texts of all items behind the first
+abbrev pub Walk : List ℕ → List ℕ → List Datum → ℕ → Type 0
+Walk old mid ds i = (done : List ℕ) × (mid ≡ old ++ done) × (done ++ behind_data (drop i ds) ≡ behind_data (drop 1 ds))
+
+pub walk_start : (old : List ℕ) (ds : List Datum) → Walk old old ds 1
+walk_start old ds = ([], sym (append-nil old), refl)
+
+run_text : (ds : List Datum) (i : ℕ) (v : Value) (vs : List Value) → IsRun ds i v vs → behind_data (drop i ds) ≡ behind_texts (v ∷ vs) ++ behind_data (drop (i + 1 + length vs) ds)
+run_text ds i v vs r = ap behind_data r ∙ behind_data-append (data_of (v ∷ vs)) (drop (i + 1 + length vs) ds)
+
+pub walk_next : (old mid new : List ℕ) (ds : List Datum) (i n : ℕ) (v : Value) (vs : List Value) → Walk old mid ds i → IsRun ds i v vs → new ≡ mid ++ behind_texts (v ∷ vs) → n ≡ i + 1 + length vs → Walk old new ds n
+walk_next old mid new ds i n v vs w r h k =
+    let left : (w.0 ++ behind_texts (v ∷ vs)) ++ behind_data (drop (i + 1 + length vs) ds) ≡ behind_data (drop 1 ds) =
+    append_assoc w.0 (behind_texts (v ∷ vs)) (behind_data (drop (i + 1 + length vs) ds)) ∙ ap (λ x. w.0 ++ x) (sym (run_text ds i v vs r)) ∙ w.2 in
+    subst (Walk old new ds) (sym k) (w.0 ++ behind_texts (v ∷ vs), join old mid new w.0 (behind_texts (v ∷ vs)) w.1 h, left)
+
+pub walk_part : (old mid new : List ℕ) (ds : List Datum) (i : ℕ) (v : Value) (vs : List Value) → Walk old mid ds i → IsRun ds i v vs → AppendsPart mid new (behind_texts (v ∷ vs)) → AppendsPart old new (behind_data (drop 1 ds))
+walk_part old mid new ds i v vs w r h =
+    let rest = behind_data (drop (i + 1 + length vs) ds) in
+    subst (AppendsPart old new) (ap (λ x. w.0 ++ x) (sym (run_text ds i v vs r)) ∙ w.2) (part_between old mid new w.0 (behind_texts (v ∷ vs)) rest w.1 h)
+
+pub walk_done : (old mid : List ℕ) (ds : List Datum) (i : ℕ) → Walk old mid ds i → length ds ≤ i → mid ≡ old ++ behind_data (drop 1 ds)
+walk_done old mid ds i w h = w.1 ∙ ap (λ x. old ++ x) (sym (append-nil w.0) ∙ ap (λ x. w.0 ++ behind_data x) (sym (drop_all i ds h)) ∙ w.2)
+
+-- the first item, and the others
+pub first_is : (ds : List Datum) (d : Datum) → Some d ≡ slice_get ds 0 → ds ≡ d ∷ drop 1 ds
+first_is [] d h = absurd (omega (arith, slice_get_within [] 0 d (sym h)))
+first_is (x ∷ xs) d h = ap (λ y. y ∷ xs) (sym (same_some d x h))
+
+pub none_is : (ds : List Datum) → None ≡ slice_get ds 0 → ds ≡ []
+none_is [] h = refl
+none_is (x ∷ xs) h = absurd (some_none x (sym h))
+
+pub found : (o : Option (Bor Value)) (ds : List Datum) (b : Bor Value) → o ≡ Some b → option_map datum_of (option_copied o) ≡ slice_get ds 0 → Some (datum_of b.now) ≡ slice_get ds 0
+found o ds b e h = ap (λ x. option_map datum_of (option_copied x)) (sym e) ∙ h
+
+-- a list's text in whole
+pub list_whole : (old mid first behind new : List ℕ) (ds tail : List Datum) (d : Datum) → mid ≡ old ++ 40 ∷ [] → ds ≡ d ∷ tail → first ≡ mid ++ datum_text d → behind ≡ first ++ behind_data tail → new ≡ behind ++ 41 ∷ []
+    → new ≡ old ++ (40 ∷ spaced (map datum_text ds) ++ 41 ∷ [])
+list_whole old mid first behind new ds tail d e s f h k =
+    let item = datum_text d in
+    join old behind new (40 ∷ (item ++ behind_data tail)) (41 ∷ []) (join old first behind (40 ∷ item) (behind_data tail) (join old mid first (40 ∷ []) item e f) h) k
+    ∙ ap (λ xs. old ++ (40 ∷ spaced (map datum_text xs) ++ 41 ∷ [])) (sym s)
+
+pub list_none : (old mid new : List ℕ) (ds : List Datum) → mid ≡ old ++ 40 ∷ [] → ds ≡ [] → new ≡ mid ++ 41 ∷ [] → new ≡ old ++ (40 ∷ spaced (map datum_text ds) ++ 41 ∷ [])
+list_none old mid new ds e s k = join old mid new (40 ∷ []) (41 ∷ []) e k ∙ ap (λ xs. old ++ (40 ∷ spaced (map datum_text xs) ++ 41 ∷ [])) (sym s)
+
 -- a list's text up to a part of its first item
-pub list_first : (old mid new : List ℕ) (vs tail : List Value) (v : Value) → mid ≡ old ++ 40 ∷ [] → vs ≡ v ∷ tail → AppendsPart mid new (datum_text (datum_of v))
-    → AppendsPart old new (40 ∷ spaced (map datum_text (data_of vs)) ++ 41 ∷ [])
-list_first old mid new vs tail v e s h =
-    let item = datum_text (datum_of v) in
-    let all = part_between old mid new (40 ∷ []) item (behind_texts tail ++ 41 ∷ []) e h in
-    subst (λ xs. AppendsPart old new (40 ∷ spaced (map datum_text (data_of xs)) ++ 41 ∷ [])) (sym s)
-    (subst (λ x. AppendsPart old new (40 ∷ x)) (sym (append_assoc item (behind_texts tail) (41 ∷ []))) all)
+pub list_first : (old mid new : List ℕ) (ds tail : List Datum) (d : Datum) → mid ≡ old ++ 40 ∷ [] → ds ≡ d ∷ tail → AppendsPart mid new (datum_text d)
+    → AppendsPart old new (40 ∷ spaced (map datum_text ds) ++ 41 ∷ [])
+list_first old mid new ds tail d e s h =
+    let item = datum_text d in
+    let all = part_between old mid new (40 ∷ []) item (behind_data tail ++ 41 ∷ []) e h in
+    subst (λ xs. AppendsPart old new (40 ∷ spaced (map datum_text xs) ++ 41 ∷ [])) (sym s)
+    (subst (λ x. AppendsPart old new (40 ∷ x)) (sym (append_assoc item (behind_data tail) (41 ∷ []))) all)
 
 -- a list's text up to a part of its other items
-pub list_others : (old mid first new : List ℕ) (vs tail : List Value) (v : Value) → mid ≡ old ++ 40 ∷ [] → vs ≡ v ∷ tail → first ≡ mid ++ datum_text (datum_of v)
-    → AppendsPart first new (behind_texts tail) → AppendsPart old new (40 ∷ spaced (map datum_text (data_of vs)) ++ 41 ∷ [])
-list_others old mid first new vs tail v e s f h =
-    let item = datum_text (datum_of v) in
-    let all = part_between old first new (40 ∷ item) (behind_texts tail) (41 ∷ []) (join old mid first (40 ∷ []) item e f) h in
-    subst (λ xs. AppendsPart old new (40 ∷ spaced (map datum_text (data_of xs)) ++ 41 ∷ [])) (sym s)
-    (subst (λ x. AppendsPart old new (40 ∷ x)) (sym (append_assoc item (behind_texts tail) (41 ∷ []))) all)
+pub list_others : (old mid first new : List ℕ) (ds tail : List Datum) (d : Datum) → mid ≡ old ++ 40 ∷ [] → ds ≡ d ∷ tail → first ≡ mid ++ datum_text d
+    → AppendsPart first new (behind_data tail) → AppendsPart old new (40 ∷ spaced (map datum_text ds) ++ 41 ∷ [])
+list_others old mid first new ds tail d e s f h =
+    let item = datum_text d in
+    let all = part_between old first new (40 ∷ item) (behind_data tail) (41 ∷ []) (join old mid first (40 ∷ []) item e f) h in
+    subst (λ xs. AppendsPart old new (40 ∷ spaced (map datum_text xs) ++ 41 ∷ [])) (sym s)
+    (subst (λ x. AppendsPart old new (40 ∷ x)) (sym (append_assoc item (behind_data tail) (41 ∷ []))) all)
+
+-- the first of some values, and a part of the others
+pub run_first : (old mid new : List ℕ) (v : Value) (vs : List Value) → mid ≡ old ++ 32 ∷ [] → AppendsPart mid new (datum_text (datum_of v)) → AppendsPart old new (behind_texts (v ∷ vs))
+run_first old mid new v vs e h = part_between old mid new (32 ∷ []) (datum_text (datum_of v)) (behind_texts vs) e h
+
+pub run_others : (old mid first new : List ℕ) (v : Value) (vs : List Value) → mid ≡ old ++ 32 ∷ [] → first ≡ mid ++ datum_text (datum_of v) → AppendsPart first new (behind_texts vs) → AppendsPart old new (behind_texts (v ∷ vs))
+run_others old mid first new v vs e f h = part_behind old first new (32 ∷ datum_text (datum_of v)) (behind_texts vs) (join old mid first (32 ∷ []) (datum_text (datum_of v)) e f) h
 
 pub string_text : (v : Value) (s text bytes : List ℕ) → v ≡ value.Str s → text ≡ s → bytes ≡ text → 34 ∷ escaped bytes ++ 34 ∷ [] ≡ datum_text (datum_of v)
 string_text v s text bytes e h k = ap (λ x. 34 ∷ escaped x ++ 34 ∷ []) (k ∙ h) ∙ sym (text-Str s) ∙ ap (λ x. datum_text (datum_of x)) (sym e)
 
-pub list_text : (v : Value) (ds : List Datum) (items : List Value) → v ≡ value.List ds → data_of items ≡ ds → 40 ∷ spaced (map datum_text (data_of items)) ++ 41 ∷ [] ≡ datum_text (datum_of v)
-list_text v ds items e h = ap (λ x. 40 ∷ spaced (map datum_text x) ++ 41 ∷ []) h ∙ sym (text-Seq ds) ∙ ap (λ x. datum_text (datum_of x)) (sym e)
+pub list_text : (v : Value) (ds : List Datum) → v ≡ value.List ds → 40 ∷ spaced (map datum_text ds) ++ 41 ∷ [] ≡ datum_text (datum_of v)
+list_text v ds e = sym (text-Seq ds) ∙ ap (λ x. datum_text (datum_of x)) (sym e)

@@ -1,12 +1,19 @@
 -- Values as plain data, and their size and depth.
-use Rattle.std.specs.Prelude.{ℕ, ◌+◌, ◌≤◌, ◌≡◌, List, [], ◌∷◌, map, length, max, Option, Some, None}
-use Rattle.fr_value.specs.declared.value.Datum.{Datum, fold-Datum, fold-roll-Datum, out-Datum, out-roll-Datum}
+use Rattle.std.specs.Prelude.{ℕ, ◌+◌, ◌≤◌, ◌≡◌, List, [], ◌∷◌, ◌++◌, map, length, drop, max, Option, Some, None}
+use Rattle.fr_value.specs.declared.value.Datum.{Datum, fold-Datum, fold-roll-Datum, out-Datum, out-roll-Datum, roll-out-Datum}
+use Rattle.fr_value.specs.declared.value.Datum.TheFolds.{map-Datum}
 use Rattle.fr_value.specs.declared.value.Datum.TheOpen.{Datum-F}
 use Rattle.fr_value.specs.declared.value.Datum.TheVariants as datum
 use Rattle.fr_value.specs.declared.value.Datum.TheVariants.{rolls-Int, rolls-Bool, rolls-Sym, rolls-Str, rolls-Seq}
-use Rattle.std.proofs.Common.{sym, ◌∙◌, ap}
+use Rattle.std.proofs.Common.{sym, ◌∙◌, ap, subst, arith}
+use Rattle.std.specs.Borrow.{Bor}
 use Rattle.fr_value.specs.declared.value.Value.{Value}
 use Rattle.fr_value.specs.declared.value.Value.TheVariants as value
+use Rattle.fr_value.specs.declared.value.Block.{Block}
+use Rattle.fr_value.specs.declared.value.More.{More}
+use Rattle.fr_value.specs.declared.value.More.TheVariants as more
+use Rattle.fr_value.specs.declared.value.Kids.{Kids}
+use Rattle.fr_value.specs.declared.value.Kids.TheVariants as kids
 
 -- the datum that a value is
 abbrev pub datum_of : Value → Datum
@@ -19,6 +26,33 @@ datum_of (value.List ds) = datum.Seq ds
 -- the data that values are
 abbrev pub data_of : List Value → List Datum
 data_of vs = map datum_of vs
+
+-- the data that values behind references are
+abbrev pub seen : List (Bor Value) → List Datum
+seen vs = map (λ v. datum_of v.now) vs
+
+-- the data of two trees
+abbrev pub kids_data : Kids → List Datum
+kids_data kids.Zero = []
+kids_data (kids.Two a b) = (a.value.0 ∷ a.value.1) ++ (b.value.0 ∷ b.value.1)
+
+-- the data of a tree
+abbrev pub tree_data : Datum × List Datum → List Datum
+tree_data t = t.0 ∷ t.1
+
+-- the data of a tree and a list behind it
+abbrev pub more_data : More → List Datum
+more_data more.Zero = []
+more_data (more.Row t ds) = (t.value.0 ∷ t.value.1) ++ ds
+
+-- the data of a list, and the number of items that it keeps
+abbrev pub list_data : Option Block → List Datum
+list_data None = []
+list_data (Some b) = data_of b.front.items ++ more_data b.more
+
+abbrev pub list_len : Option Block → ℕ
+list_len None = 0
+list_len (Some b) = b.len
 
 -- the sum of numbers
 abbrev pub total : List ℕ → ℕ
@@ -63,11 +97,33 @@ abbrev pub data_depth : List Datum → ℕ
 data_depth ds = 1 + greatest (map datum_depth ds)
 
 -- the kept numbers are those of the list, and within the limits
-pub record IsMeasured (size depth : ℕ) (ds : List Datum) : Type 0 where
+pub record IsMeasured (len size depth : ℕ) (ds : List Datum) : Type 0 where
+  pub len_is : len ≡ length ds
   pub size_is : size ≡ data_size ds
   pub depth_is : depth ≡ data_depth ds
   pub small : data_size ds ≤ 1048576
   pub shallow : data_depth ds ≤ 64
+
+step_positive : (f : Datum-F ℕ) → 1 ≤ size_step f
+step_positive (Datum-F.Int n) = omega arith
+step_positive (Datum-F.Bool b) = omega arith
+step_positive (Datum-F.Sym s) = omega arith
+step_positive (Datum-F.Str s) = omega arith
+step_positive (Datum-F.Seq ns) = omega arith
+
+-- no datum is of size 0
+pub datum_positive : (d : Datum) → 1 ≤ datum_size d
+unfolding datum_size
+datum_positive d = subst (λ e. 1 ≤ fold-Datum ℕ size_step e) (roll-out-Datum d) (subst (λ n. 1 ≤ n) (sym (fold-roll-Datum ℕ size_step (out-Datum d))) (step_positive (map-Datum Datum ℕ (fold-Datum ℕ size_step) (out-Datum d))))
+
+-- there are no more items than their sizes together
+pub length_small : (ds : List Datum) → length ds + 1 ≤ data_size ds
+length_small [] = omega arith
+length_small (d ∷ ds) = omega (arith, datum_positive d, length_small ds)
+
+pub total-append : (xs ys : List Datum) → total (map datum_size (xs ++ ys)) ≡ total (map datum_size xs) + total (map datum_size ys)
+total-append [] ys = omega arith
+total-append (x ∷ xs) ys = omega (arith, total-append xs ys)
 
 pub seq_size : (ds : List Datum) → datum_size (datum.Seq ds) ≡ data_size ds
 unfolding datum_size
@@ -139,3 +195,7 @@ AreFew ds = (data_size ds ≤ 1048576) × (data_depth ds ≤ 64)
 abbrev pub behind : List Datum → Option (List Datum)
 behind [] = None
 behind (d ∷ ds) = Some ds
+
+-- a value stands at an index, and these values right behind it
+abbrev pub IsRun : List Datum → ℕ → Value → List Value → Type 0
+IsRun ds at v vs = drop at ds ≡ datum_of v ∷ (data_of vs ++ drop (at + 1 + length vs) ds)

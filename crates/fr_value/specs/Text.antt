@@ -51,6 +51,10 @@ datum_text = fold-Datum (List ℕ) text_step
 abbrev pub behind_texts : List Value → List ℕ
 behind_texts vs = spaced_behind (map datum_text (data_of vs))
 
+-- the texts of data, each behind a space
+abbrev pub behind_data : List Datum → List ℕ
+behind_data ds = spaced_behind (map datum_text ds)
+
 -- the printed text of a value
 abbrev pub value_text : Value → List ℕ
 value_text (value.Int n) = signed_decimal n

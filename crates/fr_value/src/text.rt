@@ -1,8 +1,8 @@
-ghost use Rattle.std.specs.Prelude.{◌≡◌, ℕ, List as PlainList, ◌++◌, ◌∷◌, [], OnOk, OnErr, map, take};
+ghost use Rattle.std.specs.Prelude.{◌≡◌, ℕ, List as PlainList, ◌++◌, ◌∷◌, [], OnOk, OnErr, map, drop};
 ghost use Rattle.fr_value.specs.Data.{data_of, datum_of};
-ghost use Rattle.fr_value.specs.Text.{datum_text, escaped, escaped_byte, spaced, behind_texts, AppendsPart};
+ghost use Rattle.fr_value.specs.Text.{datum_text, escaped, escaped_byte, spaced, behind_texts, behind_data, AppendsPart};
 
-use crate::value::Value;
+use crate::value::{List, Value};
 use itoa::Buffer;
 use std::alloc::AllocError;
 
@@ -24,22 +24,48 @@ pub fn text_into(v: &Value, out: &mut Vec<u8>) -> Result<(), AllocError>
         Value::Bool(false) => out.extend_from_slice(b"#f"),
         Value::Sym(s) => out.extend_from_slice(s.as_str().as_bytes()),
         Value::Str(s) => string_into(s.as_str().as_bytes(), out),
-        Value::List(l) => list_into(l.items(), out),
+        Value::List(l) => list_into(l, out),
     }
 }
 
-/// Appends the text of a list of these items.
+/// Appends a list's text.
 #[cycle(text)]
-fn list_into(items: &[Value], out: &mut Vec<u8>) -> Result<(), AllocError>
-    ensures whole { OnOk result (out.new.items ≡ out.old.items ++ (40 ∷ spaced (map datum_text (data_of items.now)) ++ 41 ∷ [])) }
-    ensures part { OnErr result (AppendsPart out.old.items out.new.items (40 ∷ spaced (map datum_text (data_of items.now)) ++ 41 ∷ [])) }
+fn list_into(list: &List, out: &mut Vec<u8>) -> Result<(), AllocError>
+    ensures whole { OnOk result (out.new.items ≡ out.old.items ++ (40 ∷ spaced (map datum_text list.now) ++ 41 ∷ [])) }
+    ensures part { OnErr result (AppendsPart out.old.items out.new.items (40 ∷ spaced (map datum_text list.now) ++ 41 ∷ [])) }
 {
     out.extend_from_slice(b"(")?;
-    if let Some((first, others)) = items.split_first() {
+    if let Some(first) = list.get(0) {
         text_into(first, out)?;
-        others_into(others, out)?;
+        behind_into(list, out)?;
     }
     out.extend_from_slice(b")")
+}
+
+/// Appends a space and the text of each item behind the first.
+#[cycle(text)]
+fn behind_into(list: &List, out: &mut Vec<u8>) -> Result<(), AllocError>
+    ensures whole { OnOk result (out.new.items ≡ out.old.items ++ behind_data (drop 1 list.now)) }
+    ensures part { OnErr result (AppendsPart out.old.items out.new.items (behind_data (drop 1 list.now))) }
+{
+    let mut at = 1;
+    while at < list.len() {
+        let (first, others) = list.run(at);
+        run_into(first, others, out)?;
+        at += 1 + others.len();
+    }
+    Ok(())
+}
+
+/// Appends a space and the text of each of these items.
+#[cycle(text)]
+fn run_into(first: &Value, others: &[Value], out: &mut Vec<u8>) -> Result<(), AllocError>
+    ensures whole { OnOk result (out.new.items ≡ out.old.items ++ behind_texts (first.now ∷ others.now)) }
+    ensures part { OnErr result (AppendsPart out.old.items out.new.items (behind_texts (first.now ∷ others.now))) }
+{
+    out.extend_from_slice(b" ")?;
+    text_into(first, out)?;
+    others_into(others, out)
 }
 
 /// Appends a space and the text of each item.

@@ -10,8 +10,8 @@ expr-returns-then-levels-eq0 t c = sym (no_levels c.args.levels _ c.if-levels-eq
 pub expr-returns-in-Some : goal.expr-returns-in-Some
 expr-returns-in-Some t c = rw (level c.args.levels c.args.v.now c.if-levels-eq0.false, ← c.in-Some.ensures (expr_to (c.args.levels - 1))) c.filled.ensures
 
-pub expr-returns-in-None : goal.expr-returns-in-None
-expr-returns-in-None t c = rw (level c.args.levels c.args.v.now c.if-levels-eq0.false) (c.in-None.ensures (expr_to (c.args.levels - 1)))
+pub expr-returns : goal.expr-returns
+expr-returns t c = rw (level c.args.levels c.args.v.now c.if-levels-eq0.false) (c.in-None.ensures (expr_to (c.args.levels - 1)))
 
 pub cond_parts-returns-in_default-else_part : goal.cond_parts-returns-in_default-else_part
 cond_parts-returns-in_default-else_part t c =

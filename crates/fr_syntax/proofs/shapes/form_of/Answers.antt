@@ -1,5 +1,5 @@
-use Rattle.std.proofs.Common.{sym, ◌∙◌}
-use Rattle.fr_value.specs.Data.{datum_of}
+use Rattle.std.proofs.Common.{sym, ap, ◌∙◌}
+use Rattle.fr_value.specs.Data.{datum_of, data_of}
 use Rattle.fr_syntax.proofs.Heads.{opened_form, no_list, at_list, no_items, headed}
 use Rattle.fr_syntax.proofs.SmallForms.{result_small}
 use Rattle.fr_syntax.proofs.shapes.form_of.Goals as goal
@@ -9,14 +9,14 @@ returns-in_default-clause-shape c = sym (opened_form c.args.v.now ∙ no_list c.
 
 pub returns-in_default-split_first-clause-shape : goal.returns-in_default-split_first-clause-shape
 returns-in_default-split_first-clause-shape c =
-    sym (at_list c.args.v.now c.in-List.list c.items.result.now c.in-List.is c.items.ensures.value
-    ∙ no_items c.items.result.now c.in_default-split_first.ensures.cases)
+    sym (at_list c.args.v.now c.in-List.list c.deref.result.now c.in-List.is (ap data_of c.deref.ensures.value ∙ c.in_ok-items.ensures.value)
+    ∙ no_items c.deref.result.now c.in_default-split_first.ensures.cases)
 
 pub returns-clause-shape : goal.returns-clause-shape
 returns-clause-shape c =
     rw (
-      at_list c.args.v.now c.in-List.list c.items.result.now c.in-List.is c.items.ensures.value,
-      headed c.items.result.now c.in-Some.rest.now c.in-Some.head.now c.in-Some.ensures.cases.0,
+      at_list c.args.v.now c.in-List.list c.deref.result.now c.in-List.is (ap data_of c.deref.ensures.value ∙ c.in_ok-items.ensures.value),
+      headed c.deref.result.now c.in-Some.rest.now c.in-Some.head.now c.in-Some.ensures.cases.0,
       ← c.keyword_of.ensures,
     )
     c.form_with.ensures
