@@ -2,14 +2,13 @@
 use Rattle.std.specs.Prelude.{ℕ, suc, zero, Bool, true, false, ◌<◌, ◌≡◌, List, [], ◌∷◌}
 use Rattle.std.proofs.Common.{refl, inl, inr, arith}
 use Rattle.std.specs.Str.{IsUtf8, IsAscii}
-use Rattle.std.specs.Str.Parse.{without_leading_sign, signed_digits_value}
+use Rattle.std.specs.Str.Parse.{without_leading_sign}
 use Rattle.std.proofs.lemmas.Fmt.{IsAscii-from_digits}
 use Rattle.std.proofs.lemmas.Bool.{and_parts}
 use Rattle.std.proofs.lemmas.Bool.Decides.{eqb_tells}
 use Rattle.std.proofs.lemmas.Str.{IsUtf8-from_ascii}
-use Rattle.fr_value.specs.declared.value.Datum.{Datum}
-use Rattle.fr_value.specs.declared.value.Datum.TheVariants as datum
-use Rattle.fr_value.specs.Grammar.{IsAtom, IsInteger, is_name, is_true, is_false, is_symbol_byte, are_symbol_bytes}
+use Rattle.fr_reader.proofs.Numerals.{never, integer_of}
+use Rattle.fr_value.specs.Grammar.{is_integer, is_name, is_symbol_byte, are_symbol_bytes}
 
 symbol_small : (b : ℕ) → is_symbol_byte b ≡ true → b < 128
 symbol_small b h = grind (arith, h)
@@ -42,15 +41,8 @@ integer_ascii (b ∷ bs) h = elim (eqb_tells b 45) as (λ _. IsAscii (b ∷ bs))
 
 -- what isn't text is no symbol
 pub no_name : (bs : List ℕ) → (IsUtf8 bs → ⊥) → is_name bs ≡ false
-no_name bs h = either (is_name bs) (λ k. h (IsUtf8-from_ascii bs (name_ascii bs k)))
-  where
-    either : (b : Bool) → (b ≡ true → ⊥) → b ≡ false
-    either true k = absurd (k refl)
-    either false k = refl
+no_name bs h = never (is_name bs) (λ k. h (IsUtf8-from_ascii bs (name_ascii bs k)))
 
--- what is no truth value and no symbol is an integer
-pub atom_text : (a : List ℕ) (d : Datum) → is_true a ≡ false → is_false a ≡ false → is_name a ≡ false → IsAtom a d → IsUtf8 a
-unfolding IsAtom
-atom_text a d t f n h =
-    let l : IsInteger a × (d ≡ datum.Int (signed_digits_value 10 a)) = rw (t, f, n) at h in
-    IsUtf8-from_ascii a (integer_ascii a (IsAscii-from_digits (without_leading_sign a) l.0.0.1))
+-- and no integer
+pub no_integer : (bs : List ℕ) → (IsUtf8 bs → ⊥) → is_integer bs ≡ false
+no_integer bs h = never (is_integer bs) (λ k. h (IsUtf8-from_ascii bs (integer_ascii bs (IsAscii-from_digits (without_leading_sign bs) (integer_of bs k).0.1))))

@@ -8,7 +8,7 @@ ghost use Rattle.fr_value.specs.Data.{datum_of, data_of, AreFew};
 ghost use Rattle.fr_value.specs.Grammar.{begins, NoStart, IsList, IsQuoted, IsString, IsAtom, quoted};
 ghost use Rattle.fr_reader.specs.declared.reader.OneStop.TheVariants as OneStop;
 
-use crate::atoms::{MAX_BYTES, atom_value};
+use crate::atoms::{atom_value, is_short};
 use crate::bytes::{atom, past_gap, string_bytes};
 use crate::reader::OneStop;
 use fr_value::{List, ListRefusal, Name, Value};
@@ -123,7 +123,7 @@ fn string(alloc: Global, bytes: &[u8]) -> Result<(Value, &[u8]), OneStop>
     match string_bytes(alloc, bytes)? {
         None => Err(OneStop::Refused),
         Some((content, rest)) => {
-            if content.len() > MAX_BYTES {
+            if !is_short(&content) {
                 return Err(OneStop::Refused);
             }
             match str::from_utf8(&content) {

@@ -1,5 +1,5 @@
 -- Values as plain data, and their size and depth.
-use Rattle.std.specs.Prelude.{ℕ, ◌+◌, ◌≤◌, ◌≡◌, List, [], ◌∷◌, ◌++◌, map, length, drop, max, Option, Some, None}
+use Rattle.std.specs.Prelude.{ℕ, ◌+◌, ◌^◌, ◌≤◌, ◌≡◌, nat_le, nat_lt, ℤ, pos, negsuc, Bool, List, [], ◌∷◌, ◌++◌, map, length, drop, max, Option, Some, None}
 use Rattle.fr_value.specs.declared.value.Datum.{Datum, fold-Datum, fold-roll-Datum, out-Datum, out-roll-Datum, roll-out-Datum}
 use Rattle.fr_value.specs.declared.value.Datum.TheFolds.{map-Datum}
 use Rattle.fr_value.specs.declared.value.Datum.TheOpen.{Datum-F}
@@ -186,6 +186,15 @@ depth-of (value.Bool b) = ap datum_depth (sym (rolls-Bool b)) ∙ fold-roll-Datu
 depth-of (value.Sym s) = ap datum_depth (sym (rolls-Sym s)) ∙ fold-roll-Datum ℕ depth_step (Datum-F.Sym s)
 depth-of (value.Str s) = ap datum_depth (sym (rolls-Str s)) ∙ fold-roll-Datum ℕ depth_step (Datum-F.Str s)
 depth-of (value.List ds) = seq_depth ds
+
+-- a number lies in the signed 64-bit range
+abbrev pub fits : ℤ → Bool
+fits (pos n) = nat_lt n (2 ^ 63)
+fits (negsuc n) = nat_lt n (2 ^ 63)
+
+-- no more bytes than a symbol or a string may have
+abbrev pub is_short : List ℕ → Bool
+is_short s = nat_le (length s) 1048575
 
 -- a list of these data is within the limits on size and depth
 abbrev pub AreFew : List Datum → Type 0

@@ -1,11 +1,10 @@
 -- How texts read as data.
-use Rattle.std.specs.Prelude.{ℕ, suc, zero, Bool, true, false, ◌||◌, ◌&&◌, ◌==◌, not, ◌+◌, ◌≤◌, ◌≡◌, nat_le, cond, List, [], ◌∷◌, length, FitsSigned, Some}
-use Rattle.std.specs.Int.{w64}
-use Rattle.std.specs.Str.{IsUtf8, bytes_eq}
-use Rattle.std.specs.Str.Parse.{IsNumeral, without_leading_sign, signed_digits_value}
+use Rattle.std.specs.Prelude.{ℕ, suc, zero, Bool, true, false, ◌||◌, ◌&&◌, ◌==◌, not, ◌+◌, ◌≤◌, ◌≡◌, nat_le, nat_lt, cond, List, [], ◌∷◌, length, Some}
+use Rattle.std.specs.Str.{IsUtf8, bytes_eq, all_ascii_digits}
+use Rattle.std.specs.Str.Parse.{without_leading_sign, signed_digits_value}
 use Rattle.fr_value.specs.declared.value.Datum.{Datum}
 use Rattle.fr_value.specs.declared.value.Datum.TheVariants as datum
-use Rattle.fr_value.specs.Data.{AreFew}
+use Rattle.fr_value.specs.Data.{AreFew, fits, is_short}
 use Rattle.fr_value.specs.Bytes.{past_gap, atom, past_atom, string}
 
 -- a text begins with a datum, and what is left behind it
@@ -50,9 +49,13 @@ abbrev pub is_name : List ℕ → Bool
 is_name [] = false
 is_name (b ∷ bs) = are_symbol_bytes (b ∷ bs) && not (b == 46 && is_empty bs) && not (begins_with_digit (without (λ b. b == 46) (without (λ b. b == 43 || b == 45) (b ∷ bs))))
 
+-- one digit or more, and nothing else
+abbrev pub is_numeral : List ℕ → Bool
+is_numeral ds = nat_lt 0 (length ds) && all_ascii_digits ds
+
 -- an optional sign and one digit or more, of a value in the signed 64-bit range
-abbrev pub IsInteger : List ℕ → Type 0
-IsInteger a = IsNumeral 10 (without_leading_sign a) × FitsSigned w64 (signed_digits_value 10 a)
+abbrev pub is_integer : List ℕ → Bool
+is_integer a = is_numeral (without_leading_sign a) && fits (signed_digits_value 10 a)
 
 -- the atoms `#t` and `#true`
 unfoldable pub is_true : List ℕ → Bool
@@ -67,8 +70,8 @@ unfoldable pub IsAtom : List ℕ → Datum → Type 0
 IsAtom a d =
     Where (is_true a) (d ≡ datum.Bool true)
     (Where (is_false a) (d ≡ datum.Bool false)
-    (Where (is_name a) ((d ≡ datum.Sym a) × (length a ≤ 1048575))
-    (IsInteger a × (d ≡ datum.Int (signed_digits_value 10 a)))))
+    (Where (is_name a) ((d ≡ datum.Sym a) × (is_short a ≡ true))
+    ((is_integer a ≡ true) × (d ≡ datum.Int (signed_digits_value 10 a)))))
 
 -- data one after the other, and blanks and comments
 abbrev pub Items : Begins → List ℕ → List Datum → List ℕ → Type 0
@@ -89,7 +92,7 @@ IsQuoted one text d rest = (q : Datum) × (d ≡ datum.Seq (quoted q)) × AreFew
 
 -- a string's content up to its closing quotation mark: what its bytes and escapes stand for is UTF-8 and within the limit (an escape is ASCII and stands for ASCII)
 abbrev pub IsString : List ℕ → Datum → List ℕ → Type 0
-IsString text d rest = (s : List ℕ) × (d ≡ datum.Str s) × (length s ≤ 1048575) × IsUtf8 s × (string false text ≡ Some (s, rest))
+IsString text d rest = (s : List ℕ) × (d ≡ datum.Str s) × (is_short s ≡ true) × IsUtf8 s × (string false text ≡ Some (s, rest))
 
 -- a datum at the front, whose parts are read so
 abbrev pub Layer : Begins → Begins
