@@ -3,16 +3,16 @@ use Rattle.std.specs.Prelude.{ℕ, suc, zero, Bool, true, false, ◌&&◌, ◌==
 use Rattle.std.specs.Str.{IsUtf8, is_utf8}
 use Rattle.std.specs.Str.Parse.{signed_digits_value}
 use Rattle.std.proofs.Common.{refl, inl, inr, sym, ◌∙◌, ap, subst, arith}
-use Rattle.std.proofs.Math.Decide.{dec_le}
 use Rattle.std.proofs.lemmas.Bool.{and_parts}
-use Rattle.std.proofs.lemmas.Bool.Decides.{eqb_tells, nat_tests}
+use Rattle.std.proofs.lemmas.Bool.Decides.{eqb_tells}
 use Rattle.std.proofs.lemmas.Option.{none-some}
 use Rattle.std.proofs.lemmas.Str.{IsUtf8-from_is_utf8, is_utf8-from_IsUtf8}
 use Rattle.fr_value.specs.declared.value.Datum.{Datum}
 use Rattle.fr_value.specs.declared.value.Datum.TheVariants as datum
-use Rattle.fr_value.specs.Data.{AreFew, data_size, data_depth, is_short, datum_positive}
+use Rattle.fr_value.specs.Data.{AreFew, few, datum_positive}
 use Rattle.fr_value.specs.Bytes.{past_gap, atom, past_atom, string}
-use Rattle.fr_value.specs.Grammar.{Begins, Where, Items, Layer, IsList, IsQuoted, IsString, IsAtom, NoStart, ReadsOne, begins, is_name, is_true, is_false, is_integer, quoted}
+use Rattle.fr_value.specs.Grammar.{Begins, Where, Items, Layer, IsList, IsQuoted, IsString, IsAtom, NoStart, ReadsOne, begins, is_name, is_short, is_true, is_false, is_integer, quoted}
+use Rattle.fr_value.proofs.Limits.{few-Decides, few_passes}
 use Rattle.fr_value.proofs.Meet.{same_some}
 use Rattle.fr_reader.proofs.Sizes.{gap_less, begins_small}
 use Rattle.fr_reader.proofs.Steps.{heads, too_big, stuck, quote_too_big, not_one}
@@ -34,10 +34,7 @@ passes true = inl refl
 passes false = inr (λ h. cc)
 
 are_few : (ds : List Datum) → AreFew ds ⊎ (AreFew ds → ⊥)
-are_few ds = elim (dec_le (data_size ds) 1048576) as (λ _. AreFew ds ⊎ (AreFew ds → ⊥)) [
-  | yes s ↦ elim (dec_le (data_depth ds) 64) as (λ _. AreFew ds ⊎ (AreFew ds → ⊥)) [ yes d ↦ inl (s, d) | no n ↦ inr (λ f. n f.1) ]
-  | no n ↦ inr (λ f. n f.0)
-]
+are_few ds = elim (passes (few ds)) as (λ _. AreFew ds ⊎ (AreFew ds → ⊥)) [ inl h ↦ inl ((few-Decides ds).0 h) | inr n ↦ inr (λ h. n (few_passes ds h)) ]
 
 -- the front of a text reads as these data, and none begins behind them
 abbrev Whole : Begins → List ℕ → Type 0

@@ -1,19 +1,15 @@
 -- Integers and their test.
-use Rattle.std.specs.Prelude.{ℕ, Bool, true, false, ◌^◌, ◌<◌, ◌≡◌, nat_lt, length, ℤ, pos, negsuc, List, FitsSigned, Result, Ok, Err, MatchOption}
+use Rattle.std.specs.Prelude.{ℕ, true, false, ◌^◌, ◌<◌, ◌≡◌, nat_lt, length, ℤ, pos, negsuc, List, FitsSigned, Result, Ok, Err, MatchOption}
 use Rattle.std.proofs.Common.{arith, refl}
 use Rattle.std.specs.Int.{w64}
 use Rattle.std.specs.Result.{result_ok}
 use Rattle.std.specs.Str.{all_ascii_digits}
 use Rattle.std.specs.Str.Parse.{IsNumeral, digits_value, without_leading_sign, signed_digits_value, ParsesSigned}
-use Rattle.std.proofs.lemmas.Bool.{and_parts}
+use Rattle.std.proofs.lemmas.Bool.{and_parts, false_from_ne_true}
 use Rattle.std.proofs.lemmas.Bool.Decides.{nat_tests}
 use Rattle.std.proofs.lemmas.Str.Parse.{IsNumeralModel, numerals_by_value, tells_all_ascii_digits}
-use Rattle.fr_value.specs.Data.{fits}
+use Rattle.fr_value.specs.Valid.{fits}
 use Rattle.fr_value.specs.Grammar.{is_numeral, is_integer}
-
-pub never : (b : Bool) → (b ≡ true → ⊥) → b ≡ false
-never true h = absurd (h refl)
-never false h = refl
 
 -- std's test of digits
 own : IsNumeralModel (λ ds. all_ascii_digits ds ≡ true) (digits_value 10)
@@ -47,7 +43,7 @@ pub integer_from : (a : List ℕ) → IsNumeral 10 (without_leading_sign a) → 
 integer_from a n f = rw (numeral_from _ n, fits_from _ f) refl
 
 not_integer : (a : List ℕ) → ¬ (IsNumeral 10 (without_leading_sign a) × FitsSigned w64 (signed_digits_value 10 a)) → is_integer a ≡ false
-not_integer a h = never (is_integer a) (λ e. h (integer_of a e))
+not_integer a h = false_from_ne_true (is_integer a) (λ e. h (integer_of a e))
 
 -- what parses passes the test, and nothing else does
 pub parsed : {E : Type 0} (a : List ℕ) (r : Result ℤ E) → ParsesSigned w64 10 a r

@@ -1,24 +1,13 @@
 ghost use Rattle.std.specs.Prelude.{◌≡◌, ◌==◌, ◌||◌, true, false, IfOk, Err, MatchOption};
 ghost use Rattle.std.specs.Str.Parse.{signed_digits_value};
 ghost use Rattle.fr_value.specs.declared.value.Datum.{Datum};
-ghost use Rattle.fr_value.specs.Data.{datum_of, is_short};
+ghost use Rattle.fr_value.specs.Data.{datum_of};
 ghost use Rattle.fr_value.specs.Grammar.{IsAtom, is_integer, is_true, is_false};
 ghost use Rattle.fr_reader.specs.declared.reader.OneStop.TheVariants as OneStop;
 
-use crate::names::symbol;
 use crate::reader::OneStop;
-use fr_value::{Name, Value};
+use fr_value::{Symbol, SymbolRefusal, Value};
 use std::alloc::Global;
-
-/// The most bytes that a symbol or a string may have.
-const MAX_BYTES: usize = 1_048_575;
-
-/// Whether these are no more bytes than a symbol or a string may have.
-pub fn is_short(bytes: &[u8]) -> bool
-    ensures { result ≡ is_short bytes.now }
-{
-    bytes.len() <= MAX_BYTES
-}
 
 /// The datum that an atom is; `Refused` where it is none.
 #[tactic(auto, unfolding(fr_value::specs::Grammar::IsAtom))]
@@ -32,15 +21,14 @@ pub fn atom_value(alloc: Global, bytes: &[u8]) -> Result<Value, OneStop>
     if is_false(bytes) {
         return Ok(Value::Bool(false));
     }
-    if let Some(name) = symbol(bytes) {
-        if !is_short(bytes) {
-            return Err(OneStop::Refused);
-        }
-        return Ok(Value::Sym(Name::from_str(alloc, name)?));
-    }
-    match integer(bytes) {
-        Some(n) => Ok(Value::Int(n)),
-        None => Err(OneStop::Refused),
+    match Symbol::from_bytes(alloc, bytes) {
+        Ok(name) => Ok(Value::Sym(name)),
+        Err(SymbolRefusal::Memory(e)) => Err(OneStop::Memory(e)),
+        Err(SymbolRefusal::TooLong) => Err(OneStop::Refused),
+        Err(SymbolRefusal::NoSymbol) => match integer(bytes) {
+            Some(n) => Ok(Value::Int(n)),
+            None => Err(OneStop::Refused),
+        },
     }
 }
 

@@ -6,7 +6,7 @@ ghost use Rattle.fr_value.specs.Bytes.{is_blank};
 ghost use Rattle.fr_value.specs.Grammar.{is_numeral};
 ghost use Rattle.fr_script.specs.Lines.{is_blank_line, past_spaces, field, past_field, has_more, fields, AreFields};
 
-use fr_reader::symbol;
+use fr_value::symbol;
 
 /// Whether a line holds only tabs, carriage returns and spaces, or these and then a `;`.
 pub fn is_blank_line(line: &[u8]) -> bool

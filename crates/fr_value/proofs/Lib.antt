@@ -1,6 +1,9 @@
+pub mod Ascii
 pub mod Lists
 pub mod Meet
+pub mod Validity
 pub mod Measured
+pub mod Limits
 pub mod Items
 pub mod Gets
 pub mod Runs

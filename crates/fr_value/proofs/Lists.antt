@@ -1,42 +1,44 @@
 -- The size and depth of the first items of a list.
-use Rattle.std.proofs.Common.{◌≡◌, ℕ, ◌+◌, ◌≤◌, ◌<◌, List, [], ◌∷◌, length, drop, get_or, map, max, refl, ap, sym, subst, ◌∙◌, arith, zero, suc, drop-cons, add-one, ◌⊎◌, inl, inr}
+use Rattle.std.proofs.Common.{◌≡◌, ℕ, true, ◌&&◌, ◌+◌, ◌≤◌, ◌<◌, List, [], ◌∷◌, length, drop, get_or, map, max, refl, ap, sym, subst, ◌∙◌, arith, zero, suc, drop-cons, add-one, ◌⊎◌, inl, inr}
 use Rattle.std.proofs.lemmas.List.{get_or-map, drop_all}
 use Rattle.fr_value.specs.declared.value.Value.{Value}
 use Rattle.fr_value.specs.declared.value.Datum.{Datum}
+use Rattle.fr_value.specs.Valid.{is_valid, are_valid}
 use Rattle.fr_value.specs.Data.{data_of, data_size, data_depth, datum_of, datum_size, datum_depth, value_size, value_depth, size-of, depth-of, total, greatest, AreFew, datum_one}
 
 abbrev pub rest_of : List Value → ℕ → List Datum
 rest_of vs i = data_of (drop i vs)
 
--- size and depth so far, and those of the rest, are those of all
+-- size and depth so far, and those of the rest, are those of all, and all are valid where the rest is
 pub record Split (vs : List Value) (i size depth : ℕ) : Type 0 where
   pub sized : size + total (map datum_size (rest_of vs i)) ≡ data_size (data_of vs)
   pub one : 1 ≤ depth
   pub deep : max depth (1 + greatest (map datum_depth (rest_of vs i))) ≡ data_depth (data_of vs)
+  pub valid : are_valid (data_of vs) ≡ are_valid (rest_of vs i)
 
 pub at_front : (vs : List Value) (i : ℕ) (v : Value) → i < length vs → v ≡ get_or vs i v → rest_of vs i ≡ datum_of v ∷ rest_of vs (i + 1)
 at_front vs i v h e = rw (add-one, drop-cons vs i v h) (ap (λ w. datum_of w ∷ data_of (drop (suc i) vs)) (sym e))
 
-pub step : (vs : List Value) (i size depth : ℕ) → i < length vs → Split vs i size depth → (v : Value) → v ≡ get_or vs i v → Split vs (i + 1) (size + value_size v) (max depth (value_depth v + 1))
-step vs i size depth h s v e =
+pub step : (vs : List Value) (i size depth : ℕ) → i < length vs → Split vs i size depth → (v : Value) → v ≡ get_or vs i v → is_valid (datum_of v) ≡ true → Split vs (i + 1) (size + value_size v) (max depth (value_depth v + 1))
+step vs i size depth h s v e w =
     let front = at_front vs i v h e in
     let sized = rw front at s.sized in
     let deep = rw front at s.deep in
-    record { sized = omega (arith, size-of v, sized); one = omega (arith, s.one); deep = omega (arith, depth-of v, deep) }
+    record { sized = omega (arith, size-of v, sized); one = omega (arith, s.one); deep = omega (arith, depth-of v, deep); valid = s.valid ∙ ap are_valid front ∙ ap (λ b. b && are_valid (rest_of vs (i + 1))) w }
 
 -- the next item is too large, or too deep
 pub too_big : (vs : List Value) (i size depth : ℕ) → i < length vs → Split vs i size depth → (v : Value) → v ≡ get_or vs i v
-    → (1048576 < size + value_size v) ⊎ (64 < value_depth v + 1) → AreFew (data_of vs) → ⊥
-too_big vs i size depth h s v e (inl big) few = let t = step vs i size depth h s v e in omega (arith, t.sized, few.0)
-too_big vs i size depth h s v e (inr big) few = let t = step vs i size depth h s v e in omega (arith, t.deep, few.1)
+    → is_valid (datum_of v) ≡ true → (1048576 < size + value_size v) ⊎ (64 < value_depth v + 1) → AreFew (data_of vs) → ⊥
+too_big vs i size depth h s v e w (inl big) few = let t = step vs i size depth h s v e w in omega (arith, t.sized, few.0)
+too_big vs i size depth h s v e w (inr big) few = let t = step vs i size depth h s v e w in omega (arith, t.deep, few.1)
 
-pub done : (vs : List Value) (i size depth : ℕ) → length vs ≤ i → Split vs i size depth → (size ≡ data_size (data_of vs)) × (depth ≡ data_depth (data_of vs))
+pub done : (vs : List Value) (i size depth : ℕ) → length vs ≤ i → Split vs i size depth → (size ≡ data_size (data_of vs)) × (depth ≡ data_depth (data_of vs)) × (are_valid (data_of vs) ≡ true)
 done vs i size depth h s =
     let e : rest_of vs i ≡ [] = rw (drop_all i vs h) refl in
-    (omega (arith, rw e at s.sized), omega (arith, s.one, rw e at s.deep))
+    (omega (arith, rw e at s.sized), omega (arith, s.one, rw e at s.deep), s.valid ∙ ap are_valid e)
 
 pub start : (vs : List Value) → Split vs 0 1 1
-start vs = record { sized = refl; one = omega arith; deep = omega arith }
+start vs = record { sized = refl; one = omega arith; deep = omega arith; valid = refl }
 
 -- lists of equal data have equal items
 pub item_same : (xs ys : List Value) (i : ℕ) (x y : Value) → i < length xs → i < length ys → x ≡ get_or xs i x → y ≡ get_or ys i y → data_of xs ≡ data_of ys → x ≡ y

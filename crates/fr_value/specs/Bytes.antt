@@ -1,5 +1,5 @@
--- Blanks, comments, atoms and strings, on lists of bytes.
-use Rattle.std.specs.Prelude.{ℕ, Bool, true, false, ◌||◌, ◌==◌, cond, ◌++◌, List, [], ◌∷◌, Option, Some, None}
+-- Blanks, comments, atoms, symbols and strings, on lists of bytes.
+use Rattle.std.specs.Prelude.{ℕ, Bool, true, false, ◌||◌, ◌&&◌, ◌==◌, not, nat_le, cond, ◌++◌, List, [], ◌∷◌, length, Option, Some, None}
 use Rattle.std.specs.Option.{option_map, option_and_then}
 
 -- a tab, a newline, a carriage return or a space
@@ -47,3 +47,40 @@ string false (b ∷ bs) = cond (b == 34) (Some ([], bs)) (cond (b == 92) (string
 -- a string's bytes behind these, and what is left
 abbrev pub behind : List ℕ → List ℕ × List ℕ → List ℕ × List ℕ
 behind done x = (done ++ x.0, x.1)
+
+-- there is no byte
+abbrev pub is_empty : List ℕ → Bool
+is_empty [] = true
+is_empty (b ∷ bs) = false
+
+-- an ASCII letter
+abbrev pub is_letter : ℕ → Bool
+is_letter b = nat_le 97 b && nat_le b 122 || nat_le 65 b && nat_le b 90
+
+-- what a symbol may hold: letters, digits and ! $ % & * + - . / : < = > ? @ ^ _ ~
+abbrev pub is_symbol_byte : ℕ → Bool
+is_symbol_byte b = is_letter b || nat_le 48 b && nat_le b 58 || nat_le 60 b && nat_le b 64 || nat_le 36 b && nat_le b 38 || nat_le 42 b && nat_le b 43 || nat_le 45 b && nat_le b 47 || b == 33 || b == 94 || b == 95 || b == 126
+
+-- all bytes may stand in a symbol
+abbrev pub are_symbol_bytes : List ℕ → Bool
+are_symbol_bytes [] = true
+are_symbol_bytes (b ∷ bs) = is_symbol_byte b && are_symbol_bytes bs
+
+-- the first byte is a digit
+abbrev pub begins_with_digit : List ℕ → Bool
+begins_with_digit [] = false
+begins_with_digit (b ∷ bs) = nat_le 48 b && nat_le b 57
+
+-- the bytes behind the first, where it passes a test, and else all bytes
+abbrev pub without : (ℕ → Bool) → List ℕ → List ℕ
+without test [] = []
+without test (b ∷ bs) = cond (test b) bs (b ∷ bs)
+
+-- isn't `.`, and no digit comes behind one sign, if it has one, and then one `.`, if it has one
+abbrev pub is_name : List ℕ → Bool
+is_name [] = false
+is_name (b ∷ bs) = are_symbol_bytes (b ∷ bs) && not (b == 46 && is_empty bs) && not (begins_with_digit (without (λ b. b == 46) (without (λ b. b == 43 || b == 45) (b ∷ bs))))
+
+-- at most as many bytes as a symbol or a string may have
+abbrev pub is_short : List ℕ → Bool
+is_short s = nat_le (length s) 1048575

@@ -1,5 +1,5 @@
 -- Values as plain data, and their size and depth.
-use Rattle.std.specs.Prelude.{ℕ, ◌+◌, ◌^◌, ◌≤◌, ◌≡◌, nat_le, nat_lt, ℤ, pos, negsuc, Bool, List, [], ◌∷◌, ◌++◌, map, length, drop, max, Option, Some, None}
+use Rattle.std.specs.Prelude.{ℕ, ◌+◌, ◌≤◌, ◌≡◌, Bool, true, ◌&&◌, nat_le, List, [], ◌∷◌, ◌++◌, map, length, drop, max, Option, Some, None}
 use Rattle.fr_value.specs.declared.value.Datum.{Datum, fold-Datum, fold-roll-Datum, out-Datum, out-roll-Datum, roll-out-Datum}
 use Rattle.fr_value.specs.declared.value.Datum.TheFolds.{map-Datum}
 use Rattle.fr_value.specs.declared.value.Datum.TheOpen.{Datum-F}
@@ -7,6 +7,7 @@ use Rattle.fr_value.specs.declared.value.Datum.TheVariants as datum
 use Rattle.fr_value.specs.declared.value.Datum.TheVariants.{rolls-Int, rolls-Bool, rolls-Sym, rolls-Str, rolls-Seq}
 use Rattle.std.proofs.Common.{sym, ◌∙◌, ap, subst, arith}
 use Rattle.std.specs.Borrow.{Bor}
+use Rattle.fr_value.specs.Valid.{are_valid}
 use Rattle.fr_value.specs.declared.value.Value.{Value}
 use Rattle.fr_value.specs.declared.value.Value.TheVariants as value
 use Rattle.fr_value.specs.declared.value.Block.{Block}
@@ -96,13 +97,14 @@ datum_depth = fold-Datum ℕ depth_step
 abbrev pub data_depth : List Datum → ℕ
 data_depth ds = 1 + greatest (map datum_depth ds)
 
--- the kept numbers are those of the list, and within the limits
+-- the kept numbers are those of the list, and within the limits, and the list's items are valid
 pub record IsMeasured (len size depth : ℕ) (ds : List Datum) : Type 0 where
   pub len_is : len ≡ length ds
   pub size_is : size ≡ data_size ds
   pub depth_is : depth ≡ data_depth ds
   pub small : data_size ds ≤ 1048576
   pub shallow : data_depth ds ≤ 64
+  pub valid : are_valid ds ≡ true
 
 step_positive : (f : Datum-F ℕ) → 1 ≤ size_step f
 step_positive (Datum-F.Int n) = omega arith
@@ -187,18 +189,13 @@ depth-of (value.Sym s) = ap datum_depth (sym (rolls-Sym s)) ∙ fold-roll-Datum 
 depth-of (value.Str s) = ap datum_depth (sym (rolls-Str s)) ∙ fold-roll-Datum ℕ depth_step (Datum-F.Str s)
 depth-of (value.List ds) = seq_depth ds
 
--- a number lies in the signed 64-bit range
-abbrev pub fits : ℤ → Bool
-fits (pos n) = nat_lt n (2 ^ 63)
-fits (negsuc n) = nat_lt n (2 ^ 63)
-
--- no more bytes than a symbol or a string may have
-abbrev pub is_short : List ℕ → Bool
-is_short s = nat_le (length s) 1048575
-
 -- a list of these data is within the limits on size and depth
 abbrev pub AreFew : List Datum → Type 0
 AreFew ds = (data_size ds ≤ 1048576) × (data_depth ds ≤ 64)
+
+-- the same as a test
+abbrev pub few : List Datum → Bool
+few ds = nat_le (data_size ds) 1048576 && nat_le (data_depth ds) 64
 
 -- the data behind the first, if there is one
 abbrev pub behind : List Datum → Option (List Datum)

@@ -1,11 +1,13 @@
 -- How texts read as data.
-use Rattle.std.specs.Prelude.{ℕ, suc, zero, Bool, true, false, ◌||◌, ◌&&◌, ◌==◌, not, ◌+◌, ◌≤◌, ◌≡◌, nat_le, nat_lt, cond, List, [], ◌∷◌, length, Some}
+use Rattle.std.specs.Prelude.{ℕ, suc, zero, Bool, true, false, ◌||◌, ◌&&◌, ◌==◌, ◌+◌, ◌≤◌, ◌≡◌, nat_lt, List, [], ◌∷◌, length, Some}
 use Rattle.std.specs.Str.{IsUtf8, bytes_eq, all_ascii_digits}
 use Rattle.std.specs.Str.Parse.{without_leading_sign, signed_digits_value}
 use Rattle.fr_value.specs.declared.value.Datum.{Datum}
 use Rattle.fr_value.specs.declared.value.Datum.TheVariants as datum
-use Rattle.fr_value.specs.Data.{AreFew, fits, is_short}
+use Rattle.fr_value.specs.Valid.{fits}
+use Rattle.fr_value.specs.Data.{AreFew}
 use Rattle.fr_value.specs.Bytes.{past_gap, atom, past_atom, string}
+pub use Rattle.fr_value.specs.Bytes.{is_empty, is_letter, is_symbol_byte, are_symbol_bytes, begins_with_digit, without, is_name, is_short}
 
 -- a text begins with a datum, and what is left behind it
 abbrev pub Begins : Type 1
@@ -15,39 +17,6 @@ Begins = List ℕ → Datum → List ℕ → Type 0
 abbrev pub Where : Bool → Type 0 → Type 0 → Type 0
 Where true p q = p
 Where false p q = q
-
--- there is no byte
-abbrev pub is_empty : List ℕ → Bool
-is_empty [] = true
-is_empty (b ∷ bs) = false
-
--- an ASCII letter
-abbrev pub is_letter : ℕ → Bool
-is_letter b = nat_le 97 b && nat_le b 122 || nat_le 65 b && nat_le b 90
-
--- what a symbol may hold: letters, digits and ! $ % & * + - . / : < = > ? @ ^ _ ~
-abbrev pub is_symbol_byte : ℕ → Bool
-is_symbol_byte b = is_letter b || nat_le 48 b && nat_le b 58 || nat_le 60 b && nat_le b 64 || nat_le 36 b && nat_le b 38 || nat_le 42 b && nat_le b 43 || nat_le 45 b && nat_le b 47 || b == 33 || b == 94 || b == 95 || b == 126
-
--- all bytes may stand in a symbol
-abbrev pub are_symbol_bytes : List ℕ → Bool
-are_symbol_bytes [] = true
-are_symbol_bytes (b ∷ bs) = is_symbol_byte b && are_symbol_bytes bs
-
--- the first byte is a digit
-abbrev pub begins_with_digit : List ℕ → Bool
-begins_with_digit [] = false
-begins_with_digit (b ∷ bs) = nat_le 48 b && nat_le b 57
-
--- the bytes behind the first, where it passes a test, and else all bytes
-abbrev pub without : (ℕ → Bool) → List ℕ → List ℕ
-without test [] = []
-without test (b ∷ bs) = cond (test b) bs (b ∷ bs)
-
--- isn't `.`, and no digit comes behind one sign, if it has one, and then one `.`, if it has one
-abbrev pub is_name : List ℕ → Bool
-is_name [] = false
-is_name (b ∷ bs) = are_symbol_bytes (b ∷ bs) && not (b == 46 && is_empty bs) && not (begins_with_digit (without (λ b. b == 46) (without (λ b. b == 43 || b == 45) (b ∷ bs))))
 
 -- one digit or more, and nothing else
 abbrev pub is_numeral : List ℕ → Bool

@@ -4,3 +4,4 @@ pub mod DataFalls
 pub mod Grammar
 pub mod Text
 pub mod Same
+pub mod Valid

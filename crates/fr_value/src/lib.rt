@@ -4,15 +4,19 @@
 #![tactic(auto)]
 
 mod ids;
-mod name;
+mod names;
 mod now;
 mod primitive;
+mod string_text;
+mod symbols;
 mod text;
 mod value;
 
 pub use ids::{EraId, FunId, KernId, NodeId, SiteId, SrcId, VarId};
-pub use name::Name;
+pub use names::symbol;
 pub use now::{Bad, Held, Now};
 pub use primitive::Primitive;
+pub use string_text::{MAX_TEXT_BYTES, Text};
+pub use symbols::{Symbol, SymbolRefusal};
 pub use text::text_into;
 pub use value::{Datum, List, ListRefusal, Value, same};

@@ -1,9 +1,11 @@
-ghost use Rattle.std.specs.Prelude.{◌≡◌, ℕ, ◌+◌, ◌≤◌, ◌<◌, ◌^◌, ◌↔◌, [], ◌∷◌, IfOk, IsTrue, length, slice_get, Some, MatchOption, OnOk, ◌++◌, Err};
+ghost use Rattle.std.specs.Prelude.{◌≡◌, ℕ, ◌+◌, ◌≤◌, ◌<◌, ◌^◌, ◌↔◌, true, [], ◌∷◌, IfOk, IsTrue, length, slice_get, Some, MatchOption, OnOk, ◌++◌, Err};
 ghost use Rattle.std.specs.Option.{option_copied, option_map};
 ghost use Rattle.fr_value.specs.Data.{data_of, data_size, data_depth, datum_of, value_size, value_depth, AreFew, IsMeasured, behind, tree_data, kids_data, more_data, seen, IsRun};
 ghost use Rattle.fr_value.specs.Same.{is_same};
+ghost use Rattle.fr_value.specs.Valid.{is_valid, are_valid};
 
-use crate::name::Name;
+use crate::string_text::Text;
+use crate::symbols::Symbol;
 use sqlite_items::Items;
 use std::alloc::{AllocError, Global};
 use std::marker::Model;
@@ -17,9 +19,9 @@ pub enum Datum {
     /// A truth value.
     Bool(bool),
     /// A symbol.
-    Sym(Name),
+    Sym(Symbol),
     /// A string.
-    Str(Name),
+    Str(Text),
     /// A proper list of data.
     Seq(Items<Datum>),
 }
@@ -33,9 +35,9 @@ pub enum Value {
     /// A truth value.
     Bool(bool),
     /// A symbol.
-    Sym(Name),
+    Sym(Symbol),
     /// A string.
-    Str(Name),
+    Str(Text),
     /// A proper list.
     List(List),
 }
@@ -163,10 +165,11 @@ impl List {
         }
     }
 
-    /// 1 and the sizes of the items.
+    /// 1 and the sizes of the items, which are valid as every value is.
     pub fn size(&self) -> u32
         ensures value { result ≡ data_size self.now }
         ensures small { result ≤ 1048576 }
+        ensures valid { are_valid self.now ≡ true }
     {
         self.size
     }
@@ -220,11 +223,19 @@ impl Value {
     }
 
     /// 1 for an integer or a truth value, 1 and the number of bytes for a symbol or a string, and a list's own size.
+    ///
+    /// Every value is valid: its integers fit 64 bits, its symbols are symbols, its strings are UTF-8, and both are short.
+    #[tactic(auto, using(crate::proofs::Validity::valid_of))]
     pub fn size(&self) -> u64
-        ensures { result ≡ value_size self.now }
+        ensures value { result ≡ value_size self.now }
+        ensures valid { is_valid (datum_of self.now) ≡ true }
     {
         match self {
-            Value::Int(_) => 1,
+            Value::Int(n) => {
+                // the proof learns by the read that the integer fits
+                let _n = *n;
+                1
+            }
             Value::Bool(_) => 1,
             Value::Sym(s) => 1 + s.len() as u64,
             Value::Str(s) => 1 + s.len() as u64,
@@ -273,7 +284,7 @@ const CHUNK: usize = 8;
 
 /// The size and depth of a list of these items; None where one of them is beyond its limit.
 fn measure(items: &[Value]) -> Option<(u32, u32)>
-    ensures { MatchOption result (AreFew (data_of items.now) → ⊥) (λ m. (m.0 ≡ data_size (data_of items.now)) × (m.1 ≡ data_depth (data_of items.now)) × AreFew (data_of items.now)) }
+    ensures { MatchOption result (AreFew (data_of items.now) → ⊥) (λ m. (m.0 ≡ data_size (data_of items.now)) × (m.1 ≡ data_depth (data_of items.now)) × AreFew (data_of items.now) × (are_valid (data_of items.now) ≡ true)) }
 {
     let mut size: u32 = 1;
     let mut depth: u32 = 1;

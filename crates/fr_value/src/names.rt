@@ -1,7 +1,7 @@
 //! Names as the texts of symbols.
 
 ghost use Rattle.std.specs.Prelude.{◌≡◌, ◌||◌, ◌==◌, true, false, MatchOption};
-ghost use Rattle.fr_value.specs.Grammar.{is_name, is_symbol_byte, are_symbol_bytes, begins_with_digit, without};
+ghost use Rattle.fr_value.specs.Bytes.{is_name, is_symbol_byte, are_symbol_bytes, begins_with_digit, without};
 
 /// The text of a symbol, however long; None where the bytes are no symbol.
 #[tactic(auto, using(crate::proofs::Ascii::no_name))]

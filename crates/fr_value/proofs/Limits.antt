@@ -1,0 +1,20 @@
+-- The limits as tests and as facts.
+use Rattle.std.specs.Prelude.{ℕ, ◌≤◌, ◌≡◌, true, false, List, length}
+use Rattle.std.specs.Bool.{Decides}
+use Rattle.std.proofs.lemmas.Bool.{leb-true, le-leb, false_from_ne_true}
+use Rattle.std.proofs.lemmas.Bool.Decides.{Decides-and}
+use Rattle.fr_value.specs.declared.value.Datum.{Datum}
+use Rattle.fr_value.specs.Bytes.{is_short}
+use Rattle.fr_value.specs.Data.{AreFew, few, data_size, data_depth}
+
+pub short-Decides : (s : List ℕ) → Decides (is_short s) (length s ≤ 1048575)
+short-Decides s = (leb-true (length s) 1048575, le-leb (length s) 1048575)
+
+pub few-Decides : (ds : List Datum) → Decides (few ds) (AreFew ds)
+few-Decides ds = Decides-and _ _ (leb-true (data_size ds) 1048576, le-leb (data_size ds) 1048576) (leb-true (data_depth ds) 64, le-leb (data_depth ds) 64)
+
+pub few_passes : (ds : List Datum) → AreFew ds → few ds ≡ true
+few_passes ds = (few-Decides ds).1
+
+pub few_fails : (ds : List Datum) → (AreFew ds → ⊥) → few ds ≡ false
+few_fails ds n = false_from_ne_true (few ds) (λ e. n ((few-Decides ds).0 e))
