@@ -1,30 +1,17 @@
--- Atoms are text.
-use Rattle.std.specs.Prelude.{ℕ, suc, zero, Bool, true, false, ◌<◌, ◌≡◌, List, [], ◌∷◌}
-use Rattle.std.proofs.Common.{refl, inl, inr, arith}
+-- Integers are text.
+use Rattle.std.specs.Prelude.{ℕ, suc, zero, false, ◌<◌, ◌≡◌, List, [], ◌∷◌}
+use Rattle.std.proofs.Common.{inl, inr, arith}
 use Rattle.std.specs.Str.{IsUtf8, IsAscii}
-use Rattle.std.specs.Str.Parse.{without_leading_sign, signed_digits_value}
+use Rattle.std.specs.Str.Parse.{without_leading_sign}
 use Rattle.std.proofs.lemmas.Fmt.{IsAscii-from_digits}
-use Rattle.std.proofs.lemmas.Bool.{and_parts}
+use Rattle.std.proofs.lemmas.Bool.{false_from_ne_true}
 use Rattle.std.proofs.lemmas.Bool.Decides.{eqb_tells}
 use Rattle.std.proofs.lemmas.Str.{IsUtf8-from_ascii}
-use Rattle.fr_value.specs.declared.value.Datum.{Datum}
-use Rattle.fr_value.specs.declared.value.Datum.TheVariants as datum
-use Rattle.fr_value.specs.Grammar.{IsAtom, IsInteger, is_name, is_true, is_false, is_symbol_byte, are_symbol_bytes}
-
-symbol_small : (b : ℕ) → is_symbol_byte b ≡ true → b < 128
-symbol_small b h = grind (arith, h)
-
-symbols_ascii : (bs : List ℕ) → are_symbol_bytes bs ≡ true → IsAscii bs
-symbols_ascii [] h i = omega arith
-symbols_ascii (b ∷ bs) h zero = symbol_small b (and_parts (is_symbol_byte b) (are_symbol_bytes bs) h).0
-symbols_ascii (b ∷ bs) h (suc i) = symbols_ascii bs (and_parts (is_symbol_byte b) (are_symbol_bytes bs) h).1 i
+use Rattle.fr_value.specs.Grammar.{is_integer}
+use Rattle.fr_reader.proofs.Numerals.{integer_of}
 
 nil_ascii : IsAscii []
 nil_ascii i = omega arith
-
-name_ascii : (bs : List ℕ) → is_name bs ≡ true → IsAscii bs
-name_ascii [] h = nil_ascii
-name_ascii (b ∷ bs) h = symbols_ascii (b ∷ bs) (and_parts _ _ (and_parts _ _ h).0).0
 
 from_tail : (b : ℕ) (bs : List ℕ) → b < 128 → IsAscii bs → IsAscii (b ∷ bs)
 from_tail b bs h k zero = h
@@ -40,17 +27,6 @@ integer_ascii (b ∷ bs) h = elim (eqb_tells b 45) as (λ _. IsAscii (b ∷ bs))
   ]
 ]
 
--- what isn't text is no symbol
-pub no_name : (bs : List ℕ) → (IsUtf8 bs → ⊥) → is_name bs ≡ false
-no_name bs h = either (is_name bs) (λ k. h (IsUtf8-from_ascii bs (name_ascii bs k)))
-  where
-    either : (b : Bool) → (b ≡ true → ⊥) → b ≡ false
-    either true k = absurd (k refl)
-    either false k = refl
-
--- what is no truth value and no symbol is an integer
-pub atom_text : (a : List ℕ) (d : Datum) → is_true a ≡ false → is_false a ≡ false → is_name a ≡ false → IsAtom a d → IsUtf8 a
-unfolding IsAtom
-atom_text a d t f n h =
-    let l : IsInteger a × (d ≡ datum.Int (signed_digits_value 10 a)) = rw (t, f, n) at h in
-    IsUtf8-from_ascii a (integer_ascii a (IsAscii-from_digits (without_leading_sign a) l.0.0.1))
+-- what isn't text is no integer
+pub no_integer : (bs : List ℕ) → (IsUtf8 bs → ⊥) → is_integer bs ≡ false
+no_integer bs h = false_from_ne_true (is_integer bs) (λ k. h (IsUtf8-from_ascii bs (integer_ascii bs (IsAscii-from_digits (without_leading_sign bs) (integer_of bs k).0.1))))

@@ -9,6 +9,7 @@ use Rattle.fr_value.specs.declared.value.Datum.{Datum}
 use Rattle.fr_value.specs.declared.value.Datum.TheVariants as datum
 use Rattle.fr_value.proofs.Meet.{no_atom}
 use Rattle.fr_reader.proofs.Steps.{as_atom}
+use Rattle.fr_reader.proofs.Numerals.{integer_of, integer_from}
 use Rattle.fr_value.specs.Bytes.{is_blank, is_delimiter, past_gap, atom, past_atom, string}
 use Rattle.fr_value.specs.Grammar.{Begins, Items, Layer, IsList, IsQuoted, IsString, IsAtom, begins, Reads, ReadsOne, is_true, is_false, is_name, quoted, begins_with_digit, without, are_symbol_bytes, is_empty}
 use Rattle.fr_value.specs.Text.{escaped, spaced, spaced_behind, datum_text, text-Seq, text-Str, text-Sym, text-Int, text-Bool}
@@ -182,7 +183,7 @@ no_false c cs h = rw h refl
 -- an integer's atom, where none of the words before it is meant
 int_of : (a : List ℕ) (z : ℤ) → is_true a ≡ false → is_false a ≡ false → is_name a ≡ false → IsNumeral 10 (without_leading_sign a) → signed_digits_value 10 a ≡ z → FitsSigned w64 z → IsAtom a (datum.Int z)
 unfolding IsAtom
-int_of a z t f n d v h = rw (t, f, n) ((d, subst (FitsSigned w64) (sym v) h), ap datum.Int (sym v))
+int_of a z t f n d v h = rw (t, f, n) (integer_from a d (subst (FitsSigned w64) (sym v) h), ap datum.Int (sym v))
 
 plain_int : (ds : List ℕ) (n : ℕ) → IsNumeral 10 ds → digits_value 10 ds ≡ n → FitsSigned w64 (pos n) → AreFree ds × IsAtom ds (datum.Int (pos n))
 plain_int [] n h v k = absurd (omega (arith, h.0))
@@ -212,7 +213,7 @@ same_atom a d f h =
     by_where (is_true a) h (λ k. subst (λ x. AreFree (datum_text x) × IsAtom (datum_text x) x) (sym k) (subst (λ x. AreFree x × IsAtom x (datum.Bool true)) (sym (text-Bool true)) ((refl, (refl, tt)), refl))) (λ k.
     by_where (is_false a) k (λ k. subst (λ x. AreFree (datum_text x) × IsAtom (datum_text x) x) (sym k) (subst (λ x. AreFree x × IsAtom x (datum.Bool false)) (sym (text-Bool false)) ((refl, (refl, tt)), refl))) (λ k.
     by_where (is_name a) k (λ k. subst (λ x. AreFree x × IsAtom x d) (sym (ap datum_text k.0 ∙ text-Sym a)) (f, h)) (λ k.
-    subst (λ x. AreFree (datum_text x) × IsAtom (datum_text x) x) (sym k.1) (subst (λ x. AreFree x × IsAtom x (datum.Int (signed_digits_value 10 a))) (sym (text-Int (signed_digits_value 10 a))) (int_atom (signed_digits_value 10 a) k.0.1)))))
+    subst (λ x. AreFree (datum_text x) × IsAtom (datum_text x) x) (sym k.1) (subst (λ x. AreFree x × IsAtom x (datum.Int (signed_digits_value 10 a))) (sym (text-Int (signed_digits_value 10 a))) (int_atom (signed_digits_value 10 a) (integer_of a k.0).1)))))
 
 -- a quoted datum is printed as a list
 quoted_again : (one : Begins) → AgainAll one → Again one (datum.Sym (113 ∷ 117 ∷ 111 ∷ 116 ∷ 101 ∷ [])) → (t : List ℕ) (d : Datum) (r : List ℕ) → IsQuoted one t d r → Again (Layer one) d
@@ -236,7 +237,7 @@ layer_again one u q (b ∷ t) d r h =
 pub quote_reads : (n : ℕ) (t : List ℕ) (d : Datum) (r : List ℕ) → begins n t d r → Again (begins n) (datum.Sym (113 ∷ 117 ∷ 111 ∷ 116 ∷ 101 ∷ []))
 unfolding begins IsAtom is_true is_false
 quote_reads zero t d r h = absurd h
-quote_reads (suc n) t d r h = atom_back (begins n) (113 ∷ 117 ∷ 111 ∷ 116 ∷ 101 ∷ []) (datum.Sym (113 ∷ 117 ∷ 111 ∷ 116 ∷ 101 ∷ [])) (text-Sym _) (refl, (refl, (refl, (refl, (refl, tt))))) (refl, omega arith)
+quote_reads (suc n) t d r h = atom_back (begins n) (113 ∷ 117 ∷ 111 ∷ 116 ∷ 101 ∷ []) (datum.Sym (113 ∷ 117 ∷ 111 ∷ 116 ∷ 101 ∷ [])) (text-Sym _) (refl, (refl, (refl, (refl, (refl, tt))))) (refl, refl)
 
 again : (n : ℕ) → AgainAll (begins n)
 unfolding begins

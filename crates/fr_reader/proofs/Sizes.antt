@@ -13,7 +13,7 @@ use Rattle.fr_value.specs.Bytes.{is_blank, is_delimiter, skip, past_gap, atom, p
 use Rattle.fr_value.specs.Grammar.{Begins, Where, Items, Layer, IsList, IsQuoted, IsString, IsAtom, is_name, is_true, is_false, quoted, begins, Front}
 
 -- what is read takes no more than eight times the bytes
-abbrev IsSmall : Begins → Type 0
+abbrev pub IsSmall : Begins → Type 0
 IsSmall one = (t : List ℕ) (d : Datum) (r : List ℕ) → one t d r → datum_size d + 8 * length r ≤ 8 * length t
 
 skip_less : (c : Bool) (t : List ℕ) → length (skip c t) ≤ length t
@@ -91,7 +91,7 @@ layer_small one u (b ∷ t) d r h =
     string_small : IsString t d r → datum_size d + 8 * length r ≤ 8 * length (b ∷ t)
     string_small l = omega (arith, ap datum_size l.1, size-of (value.Str l.0), string_cut false t (l.0, r) l.4)
 
-begins_small : (n : ℕ) → IsSmall (begins n)
+pub begins_small : (n : ℕ) → IsSmall (begins n)
 unfolding begins
 begins_small zero t d r h = absurd h
 begins_small (suc n) t d r h = layer_small (begins n) (begins_small n) t d r h

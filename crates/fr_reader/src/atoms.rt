@@ -1,16 +1,13 @@
-ghost use Rattle.std.specs.Prelude.{◌≡◌, ◌==◌, ◌||◌, IfOk, Err};
+ghost use Rattle.std.specs.Prelude.{◌≡◌, ◌==◌, ◌||◌, true, false, IfOk, Err, MatchOption};
+ghost use Rattle.std.specs.Str.Parse.{signed_digits_value};
 ghost use Rattle.fr_value.specs.declared.value.Datum.{Datum};
 ghost use Rattle.fr_value.specs.Data.{datum_of};
-ghost use Rattle.fr_value.specs.Grammar.{IsAtom, is_true, is_false};
+ghost use Rattle.fr_value.specs.Grammar.{IsAtom, is_integer, is_true, is_false};
 ghost use Rattle.fr_reader.specs.declared.reader.OneStop.TheVariants as OneStop;
 
-use crate::names::symbol;
 use crate::reader::OneStop;
-use fr_value::{Name, Value};
+use fr_value::{Symbol, SymbolRefusal, Value};
 use std::alloc::Global;
-
-/// The most bytes that a symbol or a string may have.
-pub const MAX_BYTES: usize = 1_048_575;
 
 /// The datum that an atom is; `Refused` where it is none.
 #[tactic(auto, unfolding(fr_value::specs::Grammar::IsAtom))]
@@ -24,18 +21,25 @@ pub fn atom_value(alloc: Global, bytes: &[u8]) -> Result<Value, OneStop>
     if is_false(bytes) {
         return Ok(Value::Bool(false));
     }
-    if let Some(name) = symbol(bytes) {
-        if bytes.len() > MAX_BYTES {
-            return Err(OneStop::Refused);
-        }
-        return Ok(Value::Sym(Name::from_str(alloc, name)?));
+    match Symbol::from_bytes(alloc, bytes) {
+        Ok(name) => Ok(Value::Sym(name)),
+        Err(SymbolRefusal::Memory(e)) => Err(OneStop::Memory(e)),
+        Err(SymbolRefusal::TooLong) => Err(OneStop::Refused),
+        Err(SymbolRefusal::NoSymbol) => match integer(bytes) {
+            Some(n) => Ok(Value::Int(n)),
+            None => Err(OneStop::Refused),
+        },
     }
-    let Ok(text) = str::from_utf8(bytes) else {
-        return Err(OneStop::Refused);
-    };
-    match text.parse::<i64>() {
-        Ok(n) => Ok(Value::Int(n)),
-        Err(_) => Err(OneStop::Refused),
+}
+
+/// The integer that bytes write; None where they write none in the signed 64-bit range.
+#[tactic(auto, using(crate::proofs::Ascii::no_integer))]
+fn integer(bytes: &[u8]) -> Option<i64>
+    ensures { MatchOption result (is_integer bytes.now ≡ false) (λ n. (is_integer bytes.now ≡ true) × (n ≡ signed_digits_value 10 bytes.now)) }
+{
+    match str::from_utf8(bytes) {
+        Ok(text) => text.parse::<i64>().ok(),
+        Err(_) => None,
     }
 }
 

@@ -8,10 +8,10 @@ ghost use Rattle.fr_value.specs.Data.{datum_of, data_of, AreFew};
 ghost use Rattle.fr_value.specs.Grammar.{begins, NoStart, IsList, IsQuoted, IsString, IsAtom, quoted};
 ghost use Rattle.fr_reader.specs.declared.reader.OneStop.TheVariants as OneStop;
 
-use crate::atoms::{MAX_BYTES, atom_value};
+use crate::atoms::atom_value;
 use crate::bytes::{atom, past_gap, string_bytes};
 use crate::reader::OneStop;
-use fr_value::{List, ListRefusal, Name, Value};
+use fr_value::{List, ListRefusal, MAX_TEXT_BYTES, Symbol, Text, Value};
 use std::alloc::{AllocError, Global};
 
 /// Appends an item.
@@ -108,7 +108,7 @@ fn with_quote(alloc: Global, item: Value) -> Result<Value, OneStop>
 {
     let mut items = Vec::new(alloc);
     items
-        .push(Value::Sym(Name::from_str(alloc, "quote")?))
+        .push(Value::Sym(Symbol::from_str(alloc, "quote")?))
         .map_err(AllocError::from)?;
     items.push(item).map_err(AllocError::from)?;
     listed(alloc, items)
@@ -123,11 +123,11 @@ fn string(alloc: Global, bytes: &[u8]) -> Result<(Value, &[u8]), OneStop>
     match string_bytes(alloc, bytes)? {
         None => Err(OneStop::Refused),
         Some((content, rest)) => {
-            if content.len() > MAX_BYTES {
+            if content.len() > MAX_TEXT_BYTES {
                 return Err(OneStop::Refused);
             }
             match str::from_utf8(&content) {
-                Ok(text) => Ok((Value::Str(Name::from_str(alloc, text)?), rest)),
+                Ok(text) => Ok((Value::Str(Text::from_str(alloc, text)?), rest)),
                 Err(_) => Err(OneStop::Refused),
             }
         }

@@ -4,8 +4,6 @@
 mod atoms;
 mod bytes;
 mod front;
-mod names;
 mod reader;
 
-pub use names::symbol;
 pub use reader::{OneStop, ReadStop, one_reading, printed_text_reads, read_all, read_one};

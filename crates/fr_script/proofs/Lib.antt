@@ -1,7 +1,5 @@
 mod Options
-mod Shorter
-mod Numerals
-mod Agree
+mod Readings
 mod Saturated
 mod Added
 mod LineEnds

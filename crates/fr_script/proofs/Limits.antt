@@ -10,7 +10,7 @@ use Rattle.fr_script.specs.Lines.{Cut, byte_before, cut_at, cut}
 use Rattle.fr_script.specs.Sources.{Named, named}
 use Rattle.fr_script.specs.Kinds.{Names, is_long, is_beyond, says}
 use Rattle.fr_script.specs.Instants.{Taken, past_of, Found, found_behind, found_all, found_rest, found_from, none_taken, bad_line}
-use Rattle.fr_script.proofs.Options.{not_none}
+use Rattle.std.proofs.lemmas.Option.{none-some}
 use Rattle.fr_script.proofs.Tells.{IsGood, good_fits}
 
 -- the bytes of lines with the byte 10 that ends each
@@ -41,7 +41,7 @@ Fits next more = (t : Taken) → (next t).bad ≡ None → t.bytes ≤ 109951162
 behind_fits : (s : Said) (t : Taken) (n more : ℕ) (next : Taken → Found) → Fits next more → (IsGood s → t.bytes + n ≤ 1099511627776) → (found_behind s t n next).bad ≡ None → t.bytes + (n + more) ≤ 1099511627776
 behind_fits said.Blank t n more next f g h = let k = f (record { lines = t.lines + 1; bytes = t.bytes + n; instants = t.instants }) h (g tt) in omega arith
 behind_fits (said.Sets time e) t n more next f g h = let k = f _ h (g tt) in omega arith
-behind_fits (said.Bad k) t n more next f g h = absurd (not_none (t.lines + 1, k) (sym h))
+behind_fits (said.Bad k) t n more next f g h = absurd (none-some (t.lines + 1, k) (sym h))
 
 all_fits : Fits found_all 0
 all_fits t h k = omega arith
@@ -52,8 +52,8 @@ within b n h = grind (arith, nat_tests)
 -- bytes that may still become a line are within the limit
 not_beyond : (x y : Bool) (n : ℕ) (is : List Inputs) (f : Found)
     → (let g : Found = if x then record { instants = is; bad = Some (n + 1, kind.Long) } else (if y then record { instants = is; bad = Some (n + 1, kind.Many) } else f) in g.bad) ≡ None → y ≡ false
-not_beyond true y n is f h = absurd (not_none (n + 1, kind.Long) (sym h))
-not_beyond false true n is f h = absurd (not_none (n + 1, kind.Many) (sym h))
+not_beyond true y n is f h = absurd (none-some (n + 1, kind.Long) (sym h))
+not_beyond false true n is f h = absurd (none-some (n + 1, kind.Many) (sym h))
 not_beyond false false n is f h = refl
 
 rest_fits : (names : Names) (rest : List ℕ) (ended : Bool) → Fits (λ t. found_rest names t rest ended) (length rest)

@@ -2,9 +2,8 @@
 use Rattle.std.specs.Prelude.{ℕ, ◌≡◌, ◌^◌, ◌+◌, ◌-◌, min, Bool, true, false, ◌||◌, ◌&&◌, ◌==◌, not, if◌then◌else◌, List, [], ◌∷◌, Option, Some, None}
 use Rattle.std.specs.Option.{option_map}
 use Rattle.std.specs.Str.Parse.{digits_value}
-use Rattle.fr_value.specs.Bytes.{is_blank}
-use Rattle.fr_value.specs.Grammar.{is_name}
-use Rattle.fr_script.specs.Reading.{is_numeral}
+use Rattle.fr_value.specs.Bytes.{is_blank, is_name}
+use Rattle.fr_value.specs.Grammar.{is_numeral}
 
 -- the lines that a byte 10 ends, without it, and what follows the last byte 10
 abbrev pub Cut : Type 0

@@ -12,5 +12,4 @@ mod turn;
 
 pub use laws::good_scripts_are_short;
 pub use reader::ScriptReader;
-pub use said::values_are_readings;
 pub use turn::{LineKind, Turn};

@@ -3,7 +3,7 @@
 ghost use Rattle.std.specs.Prelude.{◌≡◌, ◌≤◌, ◌||◌, ◌==◌, ◌^◌, ◌-◌, min, true, false, None, Some, MatchOption, IfSome, length};
 ghost use Rattle.std.specs.Str.Parse.{digits_value};
 ghost use Rattle.fr_value.specs.Bytes.{is_blank};
-ghost use Rattle.fr_script.specs.Reading.{is_numeral};
+ghost use Rattle.fr_value.specs.Grammar.{is_numeral};
 ghost use Rattle.fr_script.specs.Lines.{is_blank_line, past_spaces, field, past_field, has_more, fields, AreFields};
 
 use fr_value::symbol;

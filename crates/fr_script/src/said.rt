@@ -1,11 +1,9 @@
 //! What one line of a script says.
 
-ghost use Rattle.std.specs.Prelude.{◌≡◌, ℕ, List, min, ◌^◌, ◌-◌, IfOk, Some};
+ghost use Rattle.std.specs.Prelude.{◌≡◌, ℕ, min, ◌^◌, ◌-◌, IfOk};
 ghost use Rattle.std.specs.Option.{option_copied};
 ghost use Rattle.indexmap.specs.IndexMap.{get_by_text};
 ghost use Rattle.fr_script.specs.Kinds.{says, says_source, says_value, says_at};
-ghost use Rattle.fr_value.specs.declared.value.Datum.{Datum};
-ghost use Rattle.fr_value.specs.Grammar.{ReadsOne};
 ghost use Rattle.fr_script.specs.Reading.{reading};
 
 use crate::lines::{LineFields, fields, is_blank_line};
@@ -28,12 +26,6 @@ pub enum Said {
     /// It is bad.
     Bad(LineKind),
 }
-
-/// A value is read exactly where the text reads as one datum, and as that datum.
-pub fn values_are_readings()
-    ensures read { (text : List ℕ) (d : Datum) → reading text ≡ Some d → ReadsOne text d }
-    ensures whole { (text : List ℕ) (d : Datum) → ReadsOne text d → reading text ≡ Some d }
-{}
 
 fn said_value(alloc: Global, time: u64, source: SrcId, text: &[u8]) -> Result<Said, AllocError>
     ensures { IfOk result (λ s. s ≡ says_value time source (reading text.now)) }

@@ -4,7 +4,7 @@ ghost use Rattle.fr_script.specs.Stands.{is_told};
 use crate::calls::{Call, Row, wrong};
 use crate::told::Told;
 use fr_core::{Program, Sets};
-use fr_script::{LineKind, ScriptReader, Turn, values_are_readings};
+use fr_script::{LineKind, ScriptReader, Turn};
 use fr_value::{SrcId, Value};
 use std::alloc::{AllocError, Global};
 
@@ -147,5 +147,4 @@ const TURNS: &[Row] = &[
 #[test]
 fn a_reader_gives_the_turns_of_its_pieces(rt: HostRuntime) {
     assert_eq!(rt; wrong(rt.alloc(), TURNS), 0);
-    values_are_readings();
 }

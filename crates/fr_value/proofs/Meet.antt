@@ -82,7 +82,7 @@ one_atom a d e h k =
 
 pub no_atom : (d : Datum) → IsAtom [] d → ⊥
 unfolding IsAtom is_true is_false
-no_atom d h = omega (arith, h.0.0.0)
+no_atom d h = (let e : false ≡ true = h.0 in cc)
 
 pub empty_atom : (a : List ℕ) (d : Datum) → (length a == 0) ≡ true → IsAtom a d → ⊥
 empty_atom [] d e h = no_atom d h

@@ -1,10 +1,10 @@
 -- How texts read as data.
-use Rattle.std.specs.Prelude.{ℕ, suc, zero, Bool, true, false, ◌||◌, ◌==◌, ◌+◌, ◌≤◌, ◌≡◌, List, [], ◌∷◌, length, FitsSigned, Some}
-use Rattle.std.specs.Int.{w64}
-use Rattle.std.specs.Str.{IsUtf8, bytes_eq}
-use Rattle.std.specs.Str.Parse.{IsNumeral, without_leading_sign, signed_digits_value}
+use Rattle.std.specs.Prelude.{ℕ, suc, zero, Bool, true, false, ◌||◌, ◌&&◌, ◌==◌, ◌+◌, ◌≤◌, ◌≡◌, nat_lt, List, [], ◌∷◌, length, Some}
+use Rattle.std.specs.Str.{IsUtf8, bytes_eq, all_ascii_digits}
+use Rattle.std.specs.Str.Parse.{without_leading_sign, signed_digits_value}
 use Rattle.fr_value.specs.declared.value.Datum.{Datum}
 use Rattle.fr_value.specs.declared.value.Datum.TheVariants as datum
+use Rattle.fr_value.specs.Valid.{fits}
 use Rattle.fr_value.specs.Data.{AreFew}
 use Rattle.fr_value.specs.Bytes.{past_gap, atom, past_atom, string}
 pub use Rattle.fr_value.specs.Bytes.{is_empty, is_letter, is_symbol_byte, are_symbol_bytes, begins_with_digit, without, is_name, is_short}
@@ -18,9 +18,13 @@ abbrev pub Where : Bool → Type 0 → Type 0 → Type 0
 Where true p q = p
 Where false p q = q
 
+-- one digit or more, and nothing else
+abbrev pub is_numeral : List ℕ → Bool
+is_numeral ds = nat_lt 0 (length ds) && all_ascii_digits ds
+
 -- an optional sign and one digit or more, of a value in the signed 64-bit range
-abbrev pub IsInteger : List ℕ → Type 0
-IsInteger a = IsNumeral 10 (without_leading_sign a) × FitsSigned w64 (signed_digits_value 10 a)
+abbrev pub is_integer : List ℕ → Bool
+is_integer a = is_numeral (without_leading_sign a) && fits (signed_digits_value 10 a)
 
 -- the atoms `#t` and `#true`
 unfoldable pub is_true : List ℕ → Bool
@@ -35,8 +39,8 @@ unfoldable pub IsAtom : List ℕ → Datum → Type 0
 IsAtom a d =
     Where (is_true a) (d ≡ datum.Bool true)
     (Where (is_false a) (d ≡ datum.Bool false)
-    (Where (is_name a) ((d ≡ datum.Sym a) × (length a ≤ 1048575))
-    (IsInteger a × (d ≡ datum.Int (signed_digits_value 10 a)))))
+    (Where (is_name a) ((d ≡ datum.Sym a) × (is_short a ≡ true))
+    ((is_integer a ≡ true) × (d ≡ datum.Int (signed_digits_value 10 a)))))
 
 -- data one after the other, and blanks and comments
 abbrev pub Items : Begins → List ℕ → List Datum → List ℕ → Type 0
@@ -57,7 +61,7 @@ IsQuoted one text d rest = (q : Datum) × (d ≡ datum.Seq (quoted q)) × AreFew
 
 -- a string's content up to its closing quotation mark: what its bytes and escapes stand for is UTF-8 and within the limit (an escape is ASCII and stands for ASCII)
 abbrev pub IsString : List ℕ → Datum → List ℕ → Type 0
-IsString text d rest = (s : List ℕ) × (d ≡ datum.Str s) × (length s ≤ 1048575) × IsUtf8 s × (string false text ≡ Some (s, rest))
+IsString text d rest = (s : List ℕ) × (d ≡ datum.Str s) × (is_short s ≡ true) × IsUtf8 s × (string false text ≡ Some (s, rest))
 
 -- a datum at the front, whose parts are read so
 abbrev pub Layer : Begins → Begins

@@ -1,6 +1,6 @@
 use Rattle.std.proofs.Common.{sym, ap, Err}
 use Rattle.fr_script.specs.Kinds.{says_value}
-use Rattle.fr_script.proofs.Agree.{value_read, unread}
+use Rattle.fr_script.proofs.Readings.{value_read, unread}
 use Rattle.fr_script.proofs.said.said_value.Goals as goal
 
 pub returns-in-Ok : goal.returns-in-Ok
