@@ -3,7 +3,7 @@ use crate::names::tell_outline;
 use crate::told::Told;
 use fr_prims::{PrimStop, apply, prim_named};
 use fr_reader::{OneStop, ReadStop, one_reading, printed_text_reads, read_all, read_one};
-use fr_value::{Bad, List, ListRefusal, Now, Primitive, Text, Value, same, symbol};
+use fr_value::{List, ListRefusal, Now, Primitive, Text, Value, same, symbol};
 use std::alloc::{AllocError, Global};
 
 fn tell_refused(out: &mut Told, number: u32) {
@@ -150,23 +150,10 @@ pub(crate) fn tell_same(alloc: Global, out: &mut Told, text: &[u8]) {
     }
 }
 
-fn bad_word(bad: Bad) -> &'static str {
-    match bad {
-        Bad::WrongType => "WrongType",
-        Bad::Range => "Range",
-        Bad::Zero => "Zero",
-        Bad::Empty => "Empty",
-        Bad::Arity => "Arity",
-        Bad::TooBig => "TooBig",
-        Bad::Raised => "Raised",
-        _ => "another",
-    }
-}
-
 fn tell_applied(alloc: Global, out: &mut Told, prim: Primitive, args: &[Value]) {
     match apply(alloc, prim, args) {
         Ok(value) => out.value(&value),
-        Err(PrimStop::Bad(bad)) => out.word(bad_word(bad)),
+        Err(PrimStop::Bad(bad)) => out.bad(bad),
         Err(PrimStop::Memory(_)) => out.lacks(),
     }
 }

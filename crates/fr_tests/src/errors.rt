@@ -7,26 +7,10 @@ use crate::told::Told;
 use fr_afresh::{Afresh, AfreshStop, FirstBad};
 use fr_core::{Inputs, Path, Program, Sets};
 use fr_script::{ScriptReader, Turn};
-use fr_value::Bad;
 use std::alloc::{AllocError, Global};
 
 /// The greatest time of a script's line.
 const MOST_TIME: u64 = 9_223_372_036_854_775_807;
-
-fn bad_word(bad: Bad) -> &'static str {
-    match bad {
-        Bad::WrongType => "WrongType",
-        Bad::Range => "Range",
-        Bad::Zero => "Zero",
-        Bad::Empty => "Empty",
-        Bad::Arity => "Arity",
-        Bad::TooBig => "TooBig",
-        Bad::NotData => "NotData",
-        Bad::NotEvent => "NotEvent",
-        Bad::Deep => "Deep",
-        Bad::Raised => "Raised",
-    }
-}
 
 /// The parts of a path with points between them; of a long one only how many they are.
 fn tell_path(out: &mut Told, path: &Path) {
@@ -46,7 +30,7 @@ fn tell_first(out: &mut Told, error: &FirstBad) {
     out.digits(error.time);
     out.end(":");
     tell_path(out, &error.path);
-    out.word(bad_word(error.bad));
+    out.bad(error.bad);
 }
 
 fn tell_stop(out: &mut Told, stop: &AfreshStop) {

@@ -1,4 +1,4 @@
-use fr_value::{Value, text_into};
+use fr_value::{Bad, Value, text_into};
 use itoa::Buffer;
 use std::alloc::Global;
 
@@ -61,5 +61,25 @@ impl Told {
     pub(crate) fn value(&mut self, value: &Value) {
         self.word("");
         self.is_whole &= text_into(value, &mut self.text).is_ok();
+    }
+
+    /// The name of an error's kind behind a space, where something stands before.
+    pub(crate) fn bad(&mut self, bad: Bad) {
+        self.word(bad_word(bad));
+    }
+}
+
+fn bad_word(bad: Bad) -> &'static str {
+    match bad {
+        Bad::WrongType => "WrongType",
+        Bad::Range => "Range",
+        Bad::Zero => "Zero",
+        Bad::Empty => "Empty",
+        Bad::Arity => "Arity",
+        Bad::TooBig => "TooBig",
+        Bad::NotData => "NotData",
+        Bad::NotEvent => "NotEvent",
+        Bad::Deep => "Deep",
+        Bad::Raised => "Raised",
     }
 }
