@@ -1,5 +1,6 @@
+use crate::core_form::{Handler, Loop, Operator};
 use crate::program::{Event, Input};
-use fr_value::{FunId, KernId, Name, Primitive, SiteId, SrcId, Value, VarId};
+use fr_value::{FunId, KernId, Name, SiteId, SrcId, Value, VarId};
 use sqlite_items::{Boxed, Items};
 
 /// What a kernel reads from its place.
@@ -29,32 +30,12 @@ pub enum Low {
     If(SiteId, Boxed<Low>, Boxed<Low>, Boxed<Low>),
     /// A call of a function of the program with these arguments.
     Apply(FunId, Items<Low>),
-    /// A primitive applied to these arguments.
-    PrimApp(Primitive, Items<Low>),
-    /// The first accumulator, the list, and the loop's body.
-    Fold(Boxed<Low>, Boxed<Low>, KernId, Items<Slot>),
-    /// The first accumulator, the count, and the loop's body.
-    Repeat(Boxed<Low>, Boxed<Low>, KernId, Items<Slot>),
-    /// An event, and the handler's body.
-    MapE(Boxed<Low>, KernId, Items<Slot>),
-    /// An event, and the handler's body.
-    FilterE(Boxed<Low>, KernId, Items<Slot>),
-    /// The leftmost occurrence among these events.
-    MergeE(Items<Low>),
-    /// An event, whose last payload it is, and the value before any.
-    Hold(Boxed<Low>, Boxed<Low>),
-    /// An event, the first state, and the handler's body.
-    CollectB(Boxed<Low>, Boxed<Low>, KernId, Items<Slot>),
-    /// An event, the first state, and the handler's body.
-    CollectE(Boxed<Low>, Boxed<Low>, KernId, Items<Slot>),
-    /// The value whose changes occur.
-    Changes(Boxed<Low>),
-    /// The event of which only the first occurrence is kept.
-    OnceE(Boxed<Low>),
-    /// The value at the first instant, and the value that shows one instant later.
-    Delay(Boxed<Low>, Boxed<Low>),
-    /// The event that occurs one instant later.
-    DelayE(Boxed<Low>),
+    /// An operator and its parts.
+    Operator(Operator, Items<Low>),
+    /// A handler, its parts, and the kernel of its body.
+    Handler(Handler, Items<Low>, KernId, Items<Slot>),
+    /// A loop, its parts, and the kernel of its body.
+    Loop(Loop, Items<Low>, KernId, Items<Slot>),
     /// The value that its variable has at the first instant, and the body, which binds that variable.
     Feedback(Boxed<Low>, Boxed<Low>),
     /// A pure expression that is computed as a whole.

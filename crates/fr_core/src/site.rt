@@ -36,9 +36,10 @@ fn site_in_parts(e: &Low, site: SiteId) -> Option<&Low>
             Some(found) => Some(found),
             None => site_in(body.get(), site),
         },
-        Low::Apply(_, es) | Low::PrimApp(_, es) | Low::MergeE(es) => {
-            site_in_each(es.as_slice(), site)
-        }
+        Low::Apply(_, es)
+        | Low::Operator(_, es)
+        | Low::Handler(_, es, _, _)
+        | Low::Loop(_, es, _, _) => site_in_each(es.as_slice(), site),
         Low::If(_, a, b, c) => match site_in(a.get(), site) {
             Some(found) => Some(found),
             None => match site_in(b.get(), site) {
@@ -46,21 +47,10 @@ fn site_in_parts(e: &Low, site: SiteId) -> Option<&Low>
                 None => site_in(c.get(), site),
             },
         },
-        Low::Fold(a, b, _, _)
-        | Low::Repeat(a, b, _, _)
-        | Low::CollectB(a, b, _, _)
-        | Low::CollectE(a, b, _, _)
-        | Low::Hold(a, b)
-        | Low::Delay(a, b)
-        | Low::Feedback(a, b) => match site_in(a.get(), site) {
+        Low::Feedback(a, b) => match site_in(a.get(), site) {
             Some(found) => Some(found),
             None => site_in(b.get(), site),
         },
-        Low::MapE(a, _, _)
-        | Low::FilterE(a, _, _)
-        | Low::Changes(a)
-        | Low::OnceE(a)
-        | Low::DelayE(a) => site_in(a.get(), site),
     }
 }
 

@@ -1,4 +1,4 @@
-use crate::core_form::Core;
+use crate::core_form::{Core, Operator};
 use crate::program::{Event, Function, Input, Item, Program};
 use crate::words::{core_word, prim_word};
 use fr_value::{Name, Value, text_into};
@@ -34,7 +34,7 @@ fn label_into(out: &mut Vec<u8>, e: &Core) -> Result<(), AllocError> {
         Core::Var(variable) => number_into(out, variable.0),
         Core::Source(source) => number_into(out, source.0),
         Core::Apply(function, _) => number_into(out, function.0),
-        Core::PrimApp(prim, _) => {
+        Core::Operator(Operator::Prim(prim), _) => {
             out.push(b' ')?;
             word_into(out, prim_word(*prim))
         }
@@ -57,31 +57,20 @@ fn core_into(out: &mut Vec<u8>, e: &Core) -> Result<(), AllocError> {
 fn parts_into(out: &mut Vec<u8>, e: &Core) -> Result<(), AllocError> {
     match e {
         Core::Lit(_) | Core::Var(_) | Core::Source(_) => Ok(()),
-        Core::Let(parts, body) => {
+        Core::Apply(_, parts) | Core::Operator(_, parts) => each_into(out, parts.as_slice()),
+        Core::Let(parts, body) | Core::Handler(_, parts, body) | Core::Loop(_, parts, body) => {
             each_into(out, parts.as_slice())?;
             core_into(out, body.get())
         }
-        Core::Apply(_, parts) | Core::PrimApp(_, parts) | Core::MergeE(parts) => {
-            each_into(out, parts.as_slice())
-        }
-        Core::If(a, b, c)
-        | Core::Fold(a, b, c)
-        | Core::Repeat(a, b, c)
-        | Core::CollectB(a, b, c)
-        | Core::CollectE(a, b, c) => {
+        Core::If(a, b, c) => {
             core_into(out, a.get())?;
             core_into(out, b.get())?;
             core_into(out, c.get())
         }
-        Core::MapE(a, b)
-        | Core::FilterE(a, b)
-        | Core::Hold(a, b)
-        | Core::Delay(a, b)
-        | Core::Feedback(a, b) => {
+        Core::Feedback(a, b) => {
             core_into(out, a.get())?;
             core_into(out, b.get())
         }
-        Core::Changes(a) | Core::OnceE(a) | Core::DelayE(a) => core_into(out, a.get()),
     }
 }
 
