@@ -1,7 +1,7 @@
 -- What is defined of an expression by its parts, from what is of them: one equation for any expression, of which `outs-Let` and the like tell the shape.
-use Rattle.std.proofs.Common.{◌≡◌, ◌+◌, ◌&&◌, ℕ, Bool, List, map, max, ap, ◌∙◌}
+use Rattle.std.proofs.Common.{◌≡◌, ◌+◌, ◌&&◌, ℕ, Bool, map, max, ap, ◌∙◌}
 use Rattle.fr_value.specs.Data.{total, greatest}
-use Rattle.fr_core.specs.declared.core_form.Core.{Core, out-Core, fold-Core, fold_out-Core}
+use Rattle.fr_core.specs.declared.core_form.Core.{Core, out-Core, fold_out-Core}
 use Rattle.fr_core.specs.Shapes.{inner, parts_in, entries, has_its_parts, all_true}
 use Rattle.fr_core.specs.WellFormed.{nesting, nesting_step, count, count_step, longest, longest_step, widest, widest_step, names_something, all_at, scope_step, is_scoped, formed_step, is_formed}
 use Rattle.fr_core.specs.Classes.{FunctionSet, closed_itself, closed_step, names_only, Judged, pure_itself, body_passes, all_pure, all_fit, judge_step, judge}
