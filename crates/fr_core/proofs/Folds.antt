@@ -1,5 +1,5 @@
 -- What is defined of an expression by its parts, from what is of them: one equation for any expression, of which `outs-Let` and the like tell the shape.
-use Rattle.std.proofs.Common.{◌≡◌, ◌+◌, ◌&&◌, ℕ, Bool, List, [], ◌∷◌, map, max, sym, ap, ◌∙◌, subst}
+use Rattle.std.proofs.Common.{◌≡◌, ◌≤◌, ◌<◌, ◌+◌, ◌&&◌, ℕ, zero, suc, Bool, List, [], ◌∷◌, map, max, slice_get, Some, sym, ap, ◌∙◌, subst, arith}
 use Rattle.fr_value.specs.Data.{total, greatest}
 use Rattle.fr_core.specs.declared.core_form.Core.{Core, out-Core, roll-Core, out-roll-Core, fold_out-Core, ind-Core}
 use Rattle.fr_core.specs.Shapes.{inner, parts_in, parts_of, entries, has_its_parts, all_true}
@@ -10,6 +10,15 @@ use Rattle.fr_core.proofs.Parts.{map-map, inner-map, parts_in-map, entries-map, 
 pub nesting-opens : (e : Core) → nesting e ≡ 1 + greatest (map nesting (parts_in (out-Core e)))
 unfolding nesting
 nesting-opens e = fold_out-Core ℕ nesting_step e ∙ ap (λ ns. 1 + greatest ns) (parts_in-map nesting (out-Core e))
+
+nests_within : (es : List Core) (i : ℕ) (e : Core) → Some e ≡ slice_get es i → nesting e ≤ greatest (map nesting es)
+nests_within [] i e h = absurd cc
+nests_within (d ∷ es) zero e h = let same : e ≡ d = cc in omega (arith, ap nesting same)
+nests_within (d ∷ es) (suc i) e h = omega (arith, nests_within es i e h)
+
+-- the measure of a walk over the parts
+pub part_nests_less : (e part : Core) (i : ℕ) → Some part ≡ slice_get (parts_of e) i → nesting part < nesting e
+part_nests_less e part i h = omega (arith, nesting-opens e, nests_within (parts_of e) i part h)
 
 pub count-opens : (e : Core) → count e ≡ 1 + total (map count (parts_in (out-Core e)))
 unfolding count
