@@ -1,5 +1,5 @@
 -- What is told of an expression by what it is itself and what is told of its parts.
-use Rattle.std.proofs.Common.{◌≡◌, ◌&&◌, ◌++◌, ℕ, Bool, true, false, List, [], ◌∷◌, map, refl, sym, ap, ◌∙◌}
+use Rattle.std.proofs.Common.{◌≡◌, ◌&&◌, ◌++◌, ℕ, Bool, true, List, [], ◌∷◌, map, refl, sym, ap, ◌∙◌, arith}
 use Rattle.std.specs.List.{concat}
 use Rattle.fr_core.specs.Classes.{Judged, judge, pure_itself, body_passes}
 use Rattle.fr_core.specs.Shapes.{outer, parts_in, parts_of, all_true}
@@ -17,10 +17,6 @@ calls_itself-map f _ = refl
 pub calls-opens : (e : Core) → calls e ≡ calls_itself (out-Core e) ++ concat (map calls (parts_of e))
 unfolding calls
 calls-opens e = fold_out-Core (List ℕ) calls_step e ∙ rw (calls_itself-map calls (out-Core e), parts_in-map calls (out-Core e))
-
-and_assoc : (x y z : Bool) → (x && y) && z ≡ x && (y && z)
-and_assoc true y z = refl
-and_assoc false y z = refl
 
 abbrev pub pure_in : (ℕ → ℕ → Bool) → Core → Bool
 pure_in c e = (judge c e).pure
@@ -61,20 +57,14 @@ judging_first c e = record { pure = sym (pure-opens c e); fit = refl; last_is = 
 pub judging_next : (c : ℕ → ℕ → Bool) (e part : Core) (all new found : Judged) (last : Bool) (left : List Core) → found ≡ judge c part → new ≡ both all found → Judging c e all last (part ∷ left)
     → Judging c e new found.pure left
 judging_next c e part all new found last left found_is new_is h = rw (new_is, found_is) (record {
-  pure = and_assoc all.pure (pure_in c part) _ ∙ h.pure;
-  fit = and_assoc all.fit (fit_in c part) _ ∙ h.fit;
+  pure = grind (arith, h.pure);
+  fit = grind (arith, h.fit);
   last_is = h.last_is;
 })
-
-turned : (x y : Bool) → x && y ≡ y && (x && true)
-turned true true = refl
-turned true false = refl
-turned false true = refl
-turned false false = refl
 
 pub judging_last : (c : ℕ → ℕ → Bool) (e : Core) (all : Judged) (last allowed : Bool) → allowed ≡ body_passes (λ x. last) (out-Core e) → Judging c e all last []
     → both all (record { pure = true; fit = allowed }) ≡ judge c e
 judging_last c e all last allowed is h =
     let body : allowed ≡ body_passes (pure_in c) (out-Core e) = is ∙ ap (λ t. body_passes (λ x. t) (out-Core e)) h.last_is ∙ sym (body_is_last (pure_in c) (out-Core e)) in
-    let fit : all.fit && allowed ≡ fit_in c e = turned all.fit allowed ∙ (rw (body, h.fit) (sym (fit-opens c e))) in
+    let fit : all.fit && allowed ≡ fit_in c e = grind (arith, body, h.fit, fit-opens c e) in
     λ i. record { pure = h.pure i; fit = fit i }

@@ -79,6 +79,7 @@ pub fn judge(program: &Program, marks: &[bool], e: &Core) -> Judgement
         pure: is_pure_itself(program, marks, e),
         fit: true,
     };
+    // a body is the last part
     let mut last_is_pure = true;
     let mut number = 0;
     while let Some(part) = e.part(number) {
