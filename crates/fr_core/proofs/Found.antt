@@ -17,10 +17,6 @@ found_item site es i x e h k = record { number = i; path = k.path; stands = rw (
     alone zero s = s
     alone (suc n) s = absurd cc
 
--- an expression that carries the site is found
-pub found_here : (site : SiteId) (e : Low) → site_of e ≡ Some site → Finds site (e ∷ []) (Some e)
-found_here site e h = record { number = 0; path = []; stands = refl; carries = h }
-
 -- what is found in the parts of an expression
 pub found_below : (site : SiteId) (x e : Low) → Finds site (parts x) (Some e) → Finds site (x ∷ []) (Some e)
 found_below site x e h = record { number = 0; path = h.number ∷ h.path; stands = h.stands; carries = h.carries }
