@@ -1,8 +1,11 @@
 -- Which functions of a program are closed, which are pure, and which expressions are pure or fit.
-use Rattle.std.specs.Prelude.{ℕ, ◌≡◌, ◌==◌, ◌&&◌, Bool, true, false, List, [], ◌∷◌, length, slice_get, Option, Some, None}
+use Rattle.std.specs.Prelude.{ℕ, ◌≡◌, ◌==◌, ◌&&◌, Bool, true, false, List, map, length, slice_get, Option, Some, None}
 use Rattle.fr_core.specs.WellFormed.{Root, roots}
 use Rattle.fr_core.specs.declared.core_form.Core.{Core, fold-Core}
 use Rattle.fr_core.specs.declared.core_form.Core.TheOpen.{Core-F}
+use Rattle.fr_core.specs.declared.core_form.Operator.{Operator}
+use Rattle.fr_core.specs.declared.core_form.Operator.TheVariants as operator
+use Rattle.fr_core.specs.Shapes.{parts_in, all_true}
 use Rattle.fr_core.specs.declared.program.Function.{Function}
 use Rattle.fr_core.specs.declared.program.Program.{Program}
 
@@ -10,33 +13,15 @@ use Rattle.fr_core.specs.declared.program.Program.{Program}
 abbrev pub FunctionSet : Type 0
 FunctionSet = ℕ → Bool
 
--- all of these are true
-abbrev pub all_true : List Bool → Bool
-all_true [] = true
-all_true (b ∷ bs) = b && all_true bs
+-- whether an expression itself is no source, and no call but of a member
+abbrev pub closed_itself : {X : Type 0} → FunctionSet → Core-F X → Bool
+closed_itself s (Core-F.Source x) = false
+closed_itself s (Core-F.Apply f es) = s f.0
+closed_itself s f = true
 
 -- whether an expression names no source and calls members alone, from that of its parts
 abbrev pub closed_step : FunctionSet → Core-F Bool → Bool
-closed_step s (Core-F.Lit v) = true
-closed_step s (Core-F.Var x) = true
-closed_step s (Core-F.Source x) = false
-closed_step s (Core-F.Let es b) = all_true es && b
-closed_step s (Core-F.If a b c) = a && b && c
-closed_step s (Core-F.Apply f es) = s f.0 && all_true es
-closed_step s (Core-F.PrimApp p es) = all_true es
-closed_step s (Core-F.Fold a b c) = a && b && c
-closed_step s (Core-F.Repeat a b c) = a && b && c
-closed_step s (Core-F.MapE a b) = a && b
-closed_step s (Core-F.FilterE a b) = a && b
-closed_step s (Core-F.MergeE es) = all_true es
-closed_step s (Core-F.Hold a b) = a && b
-closed_step s (Core-F.CollectB a b c) = a && b && c
-closed_step s (Core-F.CollectE a b c) = a && b && c
-closed_step s (Core-F.Changes a) = a
-closed_step s (Core-F.OnceE a) = a
-closed_step s (Core-F.Delay a b) = a && b
-closed_step s (Core-F.DelayE a) = a
-closed_step s (Core-F.Feedback a b) = a && b
+closed_step s f = closed_itself s f && all_true (parts_in f)
 
 -- whether an expression names no source and calls members of the set alone, bodies included
 unfoldable pub names_only : FunctionSet → Core → Bool
@@ -63,49 +48,39 @@ pub record Judged : Type 0 where
   pub pure : Bool
   pub fit : Bool
 
--- pure, and fit
-abbrev pub sound : Judged
-sound = record { pure = true; fit = true }
+-- whether all of these are pure
+abbrev pub all_pure : List Judged → Bool
+all_pure js = all_true (map (λ j. j.pure) js)
 
--- pure where both are, and fit where both are
-abbrev pub both : Judged → Judged → Judged
-both a b = record { pure = a.pure && b.pure; fit = a.fit && b.fit }
+-- whether all of these are fit
+abbrev pub all_fit : List Judged → Bool
+all_fit js = all_true (map (λ j. j.fit) js)
 
--- pure where all are, and fit where all are
-abbrev pub all_of : List Judged → Judged
-all_of [] = sound
-all_of (j ∷ js) = both j (all_of js)
+-- whether an operator is a primitive
+abbrev pub is_prim : Operator → Bool
+is_prim (operator.Prim p) = true
+is_prim o = false
 
--- a body that has to be pure to fit
-abbrev pub body_of : Judged → Judged
-body_of j = record { pure = j.pure; fit = j.pure && j.fit }
+-- whether an expression itself has no state and is none of an event, where the test tells whether a call of a function with so many arguments is pure
+abbrev pub pure_itself : {X : Type 0} → (ℕ → ℕ → Bool) → Core-F X → Bool
+pure_itself calls (Core-F.Apply f es) = calls f.0 (length es)
+pure_itself calls (Core-F.Operator o es) = is_prim o
+pure_itself calls (Core-F.Handler h es b) = false
+pure_itself calls (Core-F.Feedback a b) = false
+pure_itself calls f = true
 
--- not pure, and fit as before
-abbrev pub impure : Judged → Judged
-impure j = record { pure = false; fit = j.fit }
+-- whether the body of an expression that is itself a handler or a loop passes the test
+abbrev pub body_passes : {X : Type 0} → (X → Bool) → Core-F X → Bool
+body_passes test (Core-F.Handler h es b) = test b
+body_passes test (Core-F.Loop l es b) = test b
+body_passes test f = true
 
--- what is pure and what is fit, from the judgements of the parts, where the test tells whether a call of a function with so many arguments is pure
+-- what is pure and what is fit, from the judgements of the parts
 abbrev pub judge_step : (ℕ → ℕ → Bool) → Core-F Judged → Judged
-judge_step calls (Core-F.Lit v) = sound
-judge_step calls (Core-F.Var x) = sound
-judge_step calls (Core-F.Source x) = sound
-judge_step calls (Core-F.Let es b) = both (all_of es) b
-judge_step calls (Core-F.If a b c) = both a (both b c)
-judge_step calls (Core-F.Apply f es) = record { pure = calls f.0 (length es) && (all_of es).pure; fit = (all_of es).fit }
-judge_step calls (Core-F.PrimApp p es) = all_of es
-judge_step calls (Core-F.Fold a b c) = both a (both b (body_of c))
-judge_step calls (Core-F.Repeat a b c) = both a (both b (body_of c))
-judge_step calls (Core-F.MapE a b) = impure (both a (body_of b))
-judge_step calls (Core-F.FilterE a b) = impure (both a (body_of b))
-judge_step calls (Core-F.MergeE es) = impure (all_of es)
-judge_step calls (Core-F.Hold a b) = impure (both a b)
-judge_step calls (Core-F.CollectB a b c) = impure (both a (both b (body_of c)))
-judge_step calls (Core-F.CollectE a b c) = impure (both a (both b (body_of c)))
-judge_step calls (Core-F.Changes a) = impure a
-judge_step calls (Core-F.OnceE a) = impure a
-judge_step calls (Core-F.Delay a b) = impure (both a b)
-judge_step calls (Core-F.DelayE a) = impure a
-judge_step calls (Core-F.Feedback a b) = impure (both a b)
+judge_step calls f = record {
+  pure = pure_itself calls f && all_pure (parts_in f);
+  fit = body_passes (λ j. j.pure) f && all_fit (parts_in f);
+}
 
 -- an expression is pure where it has no form with a state and none of an event, and each call in it is pure; it is fit where the body of each handler and loop in it is pure
 unfoldable pub judge : (ℕ → ℕ → Bool) → Core → Judged

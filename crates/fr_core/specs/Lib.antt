@@ -1,3 +1,4 @@
+pub mod Shapes
 pub mod Sets
 pub mod Sites
 pub mod WellFormed

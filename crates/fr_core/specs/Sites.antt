@@ -15,24 +15,14 @@ parts_at (Low-F.Source x) = []
 parts_at (Low-F.Let es b) = es ++ b ∷ []
 parts_at (Low-F.If s a b c) = a ∷ b ∷ c ∷ []
 parts_at (Low-F.Apply f es) = es
-parts_at (Low-F.PrimApp p es) = es
-parts_at (Low-F.Fold a b k ss) = a ∷ b ∷ []
-parts_at (Low-F.Repeat a b k ss) = a ∷ b ∷ []
-parts_at (Low-F.MapE a k ss) = a ∷ []
-parts_at (Low-F.FilterE a k ss) = a ∷ []
-parts_at (Low-F.MergeE es) = es
-parts_at (Low-F.Hold a b) = a ∷ b ∷ []
-parts_at (Low-F.CollectB a b k ss) = a ∷ b ∷ []
-parts_at (Low-F.CollectE a b k ss) = a ∷ b ∷ []
-parts_at (Low-F.Changes a) = a ∷ []
-parts_at (Low-F.OnceE a) = a ∷ []
-parts_at (Low-F.Delay a b) = a ∷ b ∷ []
-parts_at (Low-F.DelayE a) = a ∷ []
+parts_at (Low-F.Operator o es) = es
+parts_at (Low-F.Handler h es k ss) = es
+parts_at (Low-F.Loop l es k ss) = es
 parts_at (Low-F.Feedback a b) = a ∷ b ∷ []
 parts_at (Low-F.Collapse k ss) = []
 
 -- the parts of an expression, in the order in which they are evaluated
-unfoldable pub parts : Low → List Low
+abbrev pub parts : Low → List Low
 parts e = parts_at (out-Low e)
 
 abbrev pub site_at : Low-F Low → Option SiteId
@@ -40,7 +30,7 @@ site_at (Low-F.If s a b c) = Some s
 site_at _ = None
 
 -- the site that the expression itself carries
-unfoldable pub site_of : Low → Option SiteId
+abbrev pub site_of : Low → Option SiteId
 site_of e = site_at (out-Low e)
 
 -- the expression at a path below one: the number of a part, counted from 0, then that of a part of it, and so on

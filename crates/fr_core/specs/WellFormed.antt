@@ -4,32 +4,14 @@ use Rattle.std.specs.List.{Contains}
 use Rattle.fr_value.specs.Data.{total, greatest}
 use Rattle.fr_core.specs.declared.core_form.Core.{Core, fold-Core}
 use Rattle.fr_core.specs.declared.core_form.Core.TheOpen.{Core-F}
+use Rattle.fr_core.specs.Shapes.{inner, parts_in, entries, has_its_parts, all_true}
 use Rattle.fr_core.specs.declared.program.Item.{Item}
 use Rattle.fr_core.specs.declared.program.Item.TheVariants as item
 use Rattle.fr_core.specs.declared.program.Program.{Program}
 
 -- the nesting of an expression from those of its parts
 abbrev pub nesting_step : Core-F ℕ → ℕ
-nesting_step (Core-F.Lit v) = 1
-nesting_step (Core-F.Var x) = 1
-nesting_step (Core-F.Source x) = 1
-nesting_step (Core-F.Let es b) = 1 + max (greatest es) b
-nesting_step (Core-F.If a b c) = 1 + max a (max b c)
-nesting_step (Core-F.Apply f es) = 1 + greatest es
-nesting_step (Core-F.PrimApp p es) = 1 + greatest es
-nesting_step (Core-F.Fold a b c) = 1 + max a (max b c)
-nesting_step (Core-F.Repeat a b c) = 1 + max a (max b c)
-nesting_step (Core-F.MapE a b) = 1 + max a b
-nesting_step (Core-F.FilterE a b) = 1 + max a b
-nesting_step (Core-F.MergeE es) = 1 + greatest es
-nesting_step (Core-F.Hold a b) = 1 + max a b
-nesting_step (Core-F.CollectB a b c) = 1 + max a (max b c)
-nesting_step (Core-F.CollectE a b c) = 1 + max a (max b c)
-nesting_step (Core-F.Changes a) = 1 + a
-nesting_step (Core-F.OnceE a) = 1 + a
-nesting_step (Core-F.Delay a b) = 1 + max a b
-nesting_step (Core-F.DelayE a) = 1 + a
-nesting_step (Core-F.Feedback a b) = 1 + max a b
+nesting_step f = 1 + greatest (parts_in f)
 
 -- 1 for a leaf, and one more than the deepest part for a compound, bodies included
 unfoldable pub nesting : Core → ℕ
@@ -37,26 +19,7 @@ nesting = fold-Core ℕ nesting_step
 
 -- the number of expressions in one from those of its parts
 abbrev pub count_step : Core-F ℕ → ℕ
-count_step (Core-F.Lit v) = 1
-count_step (Core-F.Var x) = 1
-count_step (Core-F.Source x) = 1
-count_step (Core-F.Let es b) = 1 + total es + b
-count_step (Core-F.If a b c) = 1 + a + b + c
-count_step (Core-F.Apply f es) = 1 + total es
-count_step (Core-F.PrimApp p es) = 1 + total es
-count_step (Core-F.Fold a b c) = 1 + a + b + c
-count_step (Core-F.Repeat a b c) = 1 + a + b + c
-count_step (Core-F.MapE a b) = 1 + a + b
-count_step (Core-F.FilterE a b) = 1 + a + b
-count_step (Core-F.MergeE es) = 1 + total es
-count_step (Core-F.Hold a b) = 1 + a + b
-count_step (Core-F.CollectB a b c) = 1 + a + b + c
-count_step (Core-F.CollectE a b c) = 1 + a + b + c
-count_step (Core-F.Changes a) = 1 + a
-count_step (Core-F.OnceE a) = 1 + a
-count_step (Core-F.Delay a b) = 1 + a + b
-count_step (Core-F.DelayE a) = 1 + a
-count_step (Core-F.Feedback a b) = 1 + a + b
+count_step f = 1 + total (parts_in f)
 
 -- the number of expressions: the expression itself and those in its parts
 unfoldable pub count : Core → ℕ
@@ -64,26 +27,7 @@ count = fold-Core ℕ count_step
 
 -- the length of the longest list from those of the parts
 abbrev pub longest_step : Core-F ℕ → ℕ
-longest_step (Core-F.Lit v) = 0
-longest_step (Core-F.Var x) = 0
-longest_step (Core-F.Source x) = 0
-longest_step (Core-F.Let es b) = max (length es) (max (greatest es) b)
-longest_step (Core-F.If a b c) = max a (max b c)
-longest_step (Core-F.Apply f es) = max (length es) (greatest es)
-longest_step (Core-F.PrimApp p es) = max (length es) (greatest es)
-longest_step (Core-F.Fold a b c) = max a (max b c)
-longest_step (Core-F.Repeat a b c) = max a (max b c)
-longest_step (Core-F.MapE a b) = max a b
-longest_step (Core-F.FilterE a b) = max a b
-longest_step (Core-F.MergeE es) = max (length es) (greatest es)
-longest_step (Core-F.Hold a b) = max a b
-longest_step (Core-F.CollectB a b c) = max a (max b c)
-longest_step (Core-F.CollectE a b c) = max a (max b c)
-longest_step (Core-F.Changes a) = a
-longest_step (Core-F.OnceE a) = a
-longest_step (Core-F.Delay a b) = max a b
-longest_step (Core-F.DelayE a) = a
-longest_step (Core-F.Feedback a b) = max a b
+longest_step f = max (entries f) (greatest (parts_in f))
 
 -- the number of entries of the longest list in an expression
 unfoldable pub longest : Core → ℕ
@@ -91,62 +35,39 @@ longest = fold-Core ℕ longest_step
 
 -- the greatest number of bindings around a place from those of the parts
 abbrev pub widest_step : Core-F ℕ → ℕ
-widest_step (Core-F.Lit v) = 0
-widest_step (Core-F.Var x) = 0
-widest_step (Core-F.Source x) = 0
-widest_step (Core-F.Let es b) = max (greatest es) (length es + b)
-widest_step (Core-F.If a b c) = max a (max b c)
-widest_step (Core-F.Apply f es) = greatest es
-widest_step (Core-F.PrimApp p es) = greatest es
-widest_step (Core-F.Fold a b c) = max a (max b (2 + c))
-widest_step (Core-F.Repeat a b c) = max a (max b (1 + c))
-widest_step (Core-F.MapE a b) = max a (1 + b)
-widest_step (Core-F.FilterE a b) = max a (1 + b)
-widest_step (Core-F.MergeE es) = greatest es
-widest_step (Core-F.Hold a b) = max a b
-widest_step (Core-F.CollectB a b c) = max a (max b (2 + c))
-widest_step (Core-F.CollectE a b c) = max a (max b (2 + c))
-widest_step (Core-F.Changes a) = a
-widest_step (Core-F.OnceE a) = a
-widest_step (Core-F.Delay a b) = max a b
-widest_step (Core-F.DelayE a) = a
-widest_step (Core-F.Feedback a b) = max a (1 + b)
+widest_step f = greatest (map (λ x. x.0 + x.1) (inner f))
 
 -- the greatest number of variables that the expression itself binds around one place in it
 unfoldable pub widest : Core → ℕ
 widest = fold-Core ℕ widest_step
 
--- all tests pass at this number of variables
-abbrev pub all_at : ℕ → List (ℕ → Bool) → Bool
+-- all parts pass where so many variables are in scope around them, and those that are bound for each
+abbrev pub all_at : ℕ → List (ℕ × (ℕ → Bool)) → Bool
 all_at n [] = true
-all_at n (t ∷ ts) = t n && all_at n ts
+all_at n (x ∷ xs) = x.1 (n + x.0) && all_at n xs
+
+-- whether the number that an expression itself has names something in scope
+abbrev pub names_something : {X : Type 0} → ℕ → ℕ → Core-F X → ℕ → Bool
+names_something functions sources (Core-F.Var x) n = nat_lt x.0 n
+names_something functions sources (Core-F.Source x) n = nat_le x.0 sources
+names_something functions sources (Core-F.Apply f es) n = nat_lt f.0 functions
+names_something functions sources f n = true
 
 -- whether each number names something in scope, from such tests of the parts
 abbrev pub scope_step : ℕ → ℕ → Core-F (ℕ → Bool) → ℕ → Bool
-scope_step functions sources (Core-F.Lit v) n = true
-scope_step functions sources (Core-F.Var x) n = nat_lt x.0 n
-scope_step functions sources (Core-F.Source x) n = nat_le x.0 sources
-scope_step functions sources (Core-F.Let es b) n = all_at n es && b (n + length es)
-scope_step functions sources (Core-F.If a b c) n = a n && b n && c n
-scope_step functions sources (Core-F.Apply f es) n = nat_lt f.0 functions && all_at n es
-scope_step functions sources (Core-F.PrimApp p es) n = all_at n es
-scope_step functions sources (Core-F.Fold a b c) n = a n && b n && c (n + 2)
-scope_step functions sources (Core-F.Repeat a b c) n = a n && b n && c (n + 1)
-scope_step functions sources (Core-F.MapE a b) n = a n && b (n + 1)
-scope_step functions sources (Core-F.FilterE a b) n = a n && b (n + 1)
-scope_step functions sources (Core-F.MergeE es) n = all_at n es
-scope_step functions sources (Core-F.Hold a b) n = a n && b n
-scope_step functions sources (Core-F.CollectB a b c) n = a n && b n && c (n + 2)
-scope_step functions sources (Core-F.CollectE a b c) n = a n && b n && c (n + 2)
-scope_step functions sources (Core-F.Changes a) n = a n
-scope_step functions sources (Core-F.OnceE a) n = a n
-scope_step functions sources (Core-F.Delay a b) n = a n && b n
-scope_step functions sources (Core-F.DelayE a) n = a n
-scope_step functions sources (Core-F.Feedback a b) n = a n && b (n + 1)
+scope_step functions sources f n = names_something functions sources f n && all_at n (inner f)
 
 -- whether each number names something in scope: a function, where there are so many, a source up to the last one, and a variable, where so many are in scope at the expression
 unfoldable pub is_scoped : ℕ → ℕ → Core → ℕ → Bool
 is_scoped functions sources = fold-Core (ℕ → Bool) (scope_step functions sources)
+
+-- whether each form has its number of parts, from such tests of the parts
+abbrev pub formed_step : Core-F Bool → Bool
+formed_step f = has_its_parts f && all_true (parts_in f)
+
+-- whether each form in an expression has its number of parts
+unfoldable pub is_formed : Core → Bool
+is_formed = fold-Core Bool formed_step
 
 -- an expression that is no part of another, and the number of variables in scope there
 pub record Root : Type 0 where
@@ -213,8 +134,14 @@ pub record AreShort (p : Program) : Type 0 where
   pub body : length p.body < most_entries
   pub parts : greatest (map (λ r. longest r.expr) (roots p)) < most_entries
 
+-- all expressions' forms have their numbers of parts
+abbrev pub are_formed : List Root → Bool
+are_formed [] = true
+are_formed (r ∷ rs) = is_formed r.expr && are_formed rs
+
 -- a program that may be run; its literals and its inputs' first values are data, since every value is
 pub record IsWellFormed (p : Program) : Type 0 where
+  pub formed : are_formed (roots p) ≡ true
   pub scoped : are_scoped (length p.functions) (last_source p) (roots p) ≡ true
   pub numbered : AreNumbered p
   pub named : AreDistinct (map (λ i. i.name) p.inputs ++ map (λ e. e.name) p.events)

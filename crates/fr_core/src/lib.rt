@@ -11,7 +11,7 @@ mod site;
 mod text;
 mod words;
 
-pub use core_form::Core;
+pub use core_form::{Core, Handler, Loop, Operator};
 pub use inputs::{Entry, Inputs, Sets};
 pub use kept::{Kept, Key};
 pub use lowered::{Low, LowFunction, LowItem, Lowered, Slot};

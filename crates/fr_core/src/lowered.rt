@@ -1,6 +1,11 @@
+ghost use Rattle.std.specs.Prelude.{◌≡◌, ◌<◌, slice_get, OnSome};
+ghost use Rattle.std.specs.Option.{option_copied};
+ghost use Rattle.fr_core.specs.Sites.{parts};
+
+use crate::core_form::{Handler, Loop, Operator};
 use crate::program::{Event, Input};
-use fr_value::{FunId, KernId, Primitive, SiteId, SrcId, Symbol, Value, VarId};
-use sqlite_items::{Boxed, Items};
+use fr_value::{FunId, KernId, SiteId, SrcId, Symbol, Value, VarId};
+use sqlite_items::{Boxed, Items, at};
 
 /// What a kernel reads from its place.
 #[derive(Clone, Copy, Debug, PartialEq, Eq)]
@@ -29,36 +34,42 @@ pub enum Low {
     If(SiteId, Boxed<Low>, Boxed<Low>, Boxed<Low>),
     /// A call of a function of the program with these arguments.
     Apply(FunId, Items<Low>),
-    /// A primitive applied to these arguments.
-    PrimApp(Primitive, Items<Low>),
-    /// The first accumulator, the list, and the loop's body.
-    Fold(Boxed<Low>, Boxed<Low>, KernId, Items<Slot>),
-    /// The first accumulator, the count, and the loop's body.
-    Repeat(Boxed<Low>, Boxed<Low>, KernId, Items<Slot>),
-    /// An event, and the handler's body.
-    MapE(Boxed<Low>, KernId, Items<Slot>),
-    /// An event, and the handler's body.
-    FilterE(Boxed<Low>, KernId, Items<Slot>),
-    /// The leftmost occurrence among these events.
-    MergeE(Items<Low>),
-    /// An event, whose last payload it is, and the value before any.
-    Hold(Boxed<Low>, Boxed<Low>),
-    /// An event, the first state, and the handler's body.
-    CollectB(Boxed<Low>, Boxed<Low>, KernId, Items<Slot>),
-    /// An event, the first state, and the handler's body.
-    CollectE(Boxed<Low>, Boxed<Low>, KernId, Items<Slot>),
-    /// The value whose changes occur.
-    Changes(Boxed<Low>),
-    /// The event of which only the first occurrence is kept.
-    OnceE(Boxed<Low>),
-    /// The value at the first instant, and the value that shows one instant later.
-    Delay(Boxed<Low>, Boxed<Low>),
-    /// The event that occurs one instant later.
-    DelayE(Boxed<Low>),
+    /// An operator and its parts.
+    Operator(Operator, Items<Low>),
+    /// A handler, its parts, and the kernel of its body.
+    Handler(Handler, Items<Low>, KernId, Items<Slot>),
+    /// A loop, its parts, and the kernel of its body.
+    Loop(Loop, Items<Low>, KernId, Items<Slot>),
     /// The value that its variable has at the first instant, and the body, which binds that variable.
     Feedback(Boxed<Low>, Boxed<Low>),
     /// A pure expression that is computed as a whole.
     Collapse(KernId, Items<Slot>),
+}
+
+impl Low {
+    /// The part of a number, which counts from 0 in the order of the parts; None where there is none.
+    pub fn part(&self, number: usize) -> Option<&Low>
+        ensures value { option_copied result ≡ slice_get (parts self.now) number }
+        ensures within { OnSome result (number < usize.MAX) }
+    {
+        match self {
+            Low::Lit(_) | Low::Var(_) | Low::Source(_) | Low::Collapse(_, _) => None,
+            Low::Apply(_, es)
+            | Low::Operator(_, es)
+            | Low::Handler(_, es, _, _)
+            | Low::Loop(_, es, _, _) => at(es.as_slice(), number),
+            Low::Let(es, body) => {
+                let entries = es.as_slice();
+                if number == entries.len() {
+                    Some(body.get())
+                } else {
+                    at(entries, number)
+                }
+            }
+            Low::If(_, a, b, c) => [a.get(), b.get(), c.get()].get(number).copied(),
+            Low::Feedback(a, b) => [a.get(), b.get()].get(number).copied(),
+        }
+    }
 }
 
 /// A global function. Its parameters are the variables from 0 on.

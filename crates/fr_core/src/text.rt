@@ -1,4 +1,4 @@
-use crate::core_form::Core;
+use crate::core_form::{Core, Operator};
 use crate::program::{Event, Function, Input, Item, Program};
 use crate::words::{core_word, prim_word};
 use fr_value::{Symbol, Value, text_into};
@@ -34,7 +34,7 @@ fn label_into(out: &mut Vec<u8>, e: &Core) -> Result<(), AllocError> {
         Core::Var(variable) => number_into(out, variable.0),
         Core::Source(source) => number_into(out, source.0),
         Core::Apply(function, _) => number_into(out, function.0),
-        Core::PrimApp(prim, _) => {
+        Core::Operator(Operator::Prim(prim), _) => {
             out.push(b' ')?;
             word_into(out, prim_word(*prim))
         }
@@ -43,53 +43,16 @@ fn label_into(out: &mut Vec<u8>, e: &Core) -> Result<(), AllocError> {
 }
 
 /// A space and an expression, in brackets.
-#[cycle(text)]
 fn core_into(out: &mut Vec<u8>, e: &Core) -> Result<(), AllocError> {
     word_into(out, " (")?;
     word_into(out, core_word(e))?;
     label_into(out, e)?;
-    parts_into(out, e)?;
-    out.push(b')')?;
-    Ok(())
-}
-
-#[cycle(text)]
-fn parts_into(out: &mut Vec<u8>, e: &Core) -> Result<(), AllocError> {
-    match e {
-        Core::Lit(_) | Core::Var(_) | Core::Source(_) => Ok(()),
-        Core::Let(parts, body) => {
-            each_into(out, parts.as_slice())?;
-            core_into(out, body.get())
-        }
-        Core::Apply(_, parts) | Core::PrimApp(_, parts) | Core::MergeE(parts) => {
-            each_into(out, parts.as_slice())
-        }
-        Core::If(a, b, c)
-        | Core::Fold(a, b, c)
-        | Core::Repeat(a, b, c)
-        | Core::CollectB(a, b, c)
-        | Core::CollectE(a, b, c) => {
-            core_into(out, a.get())?;
-            core_into(out, b.get())?;
-            core_into(out, c.get())
-        }
-        Core::MapE(a, b)
-        | Core::FilterE(a, b)
-        | Core::Hold(a, b)
-        | Core::Delay(a, b)
-        | Core::Feedback(a, b) => {
-            core_into(out, a.get())?;
-            core_into(out, b.get())
-        }
-        Core::Changes(a) | Core::OnceE(a) | Core::DelayE(a) => core_into(out, a.get()),
-    }
-}
-
-#[cycle(text)]
-fn each_into(out: &mut Vec<u8>, parts: &[Core]) -> Result<(), AllocError> {
-    for part in parts {
+    let mut number = 0;
+    while let Some(part) = e.part(number) {
         core_into(out, part)?;
+        number += 1;
     }
+    out.push(b')')?;
     Ok(())
 }
 

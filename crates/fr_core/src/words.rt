@@ -1,4 +1,4 @@
-use crate::core_form::Core;
+use crate::core_form::{Core, Handler, Loop, Operator};
 use fr_value::Primitive;
 
 /// The word of a form.
@@ -10,20 +10,32 @@ pub fn core_word(e: &Core) -> &'static str {
         Core::Let(_, _) => "let",
         Core::If(_, _, _) => "if",
         Core::Apply(_, _) => "call",
-        Core::PrimApp(_, _) => "prim",
-        Core::Fold(_, _, _) => "fold",
-        Core::Repeat(_, _, _) => "repeat",
-        Core::MapE(_, _) => "map-e",
-        Core::FilterE(_, _) => "filter-e",
-        Core::MergeE(_) => "merge-e",
-        Core::Hold(_, _) => "hold",
-        Core::CollectB(_, _, _) => "collect-b",
-        Core::CollectE(_, _, _) => "collect-e",
-        Core::Changes(_) => "changes",
-        Core::OnceE(_) => "once-e",
-        Core::Delay(_, _) => "delay",
-        Core::DelayE(_) => "delay-e",
+        Core::Operator(operator, _) => operator_word(*operator),
+        Core::Handler(handler, _, _) => handler_word(*handler),
+        Core::Loop(Loop::Fold, _, _) => "fold",
+        Core::Loop(Loop::Repeat, _, _) => "repeat",
         Core::Feedback(_, _) => "feedback",
+    }
+}
+
+fn operator_word(operator: Operator) -> &'static str {
+    match operator {
+        Operator::Prim(_) => "prim",
+        Operator::MergeE => "merge-e",
+        Operator::Hold => "hold",
+        Operator::Changes => "changes",
+        Operator::OnceE => "once-e",
+        Operator::Delay => "delay",
+        Operator::DelayE => "delay-e",
+    }
+}
+
+fn handler_word(handler: Handler) -> &'static str {
+    match handler {
+        Handler::MapE => "map-e",
+        Handler::FilterE => "filter-e",
+        Handler::CollectB => "collect-b",
+        Handler::CollectE => "collect-e",
     }
 }
 
