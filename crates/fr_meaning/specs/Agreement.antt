@@ -1,9 +1,7 @@
 -- Evaluations that answer the same, whatever they keep.
-use Rattle.std.specs.Prelude.{ℕ, List, ◌≡◌}
-use Rattle.fr_value.specs.declared.now.Now.{Now}
+use Rattle.std.specs.Prelude.{ℕ, ◌≡◌}
 use Rattle.fr_core.specs.declared.core_form.Core.{Core}
 use Rattle.fr_core.specs.declared.kept.Kept.{Kept}
-use Rattle.fr_core.specs.declared.program.Program.{Program}
 use Rattle.fr_meaning.specs.Words.{Env, Done}
 use Rattle.fr_meaning.specs.Evaluation.{World, eval}
 
@@ -12,10 +10,6 @@ pub record Agree (a b : Done) : Type 0 where
   pub value : a.value ≡ b.value
   pub cost : a.cost ≡ b.cost
   pub first : a.first ≡ b.first
-
--- the functions of a program, where its sources have these values
-abbrev pub world_of : Program → List Now → World
-world_of p sources = record { functions = p.functions; sources = sources }
 
 -- an expression's evaluation doesn't depend on its kept tree: at every nest and over every environment it answers the same over any two
 abbrev pub IsSteady : World → Core → Type 0
