@@ -1,20 +1,16 @@
 -- An evaluation depends only on the values of the places that it uses.
-use Rattle.std.proofs.Common.{◌≡◌, ℕ, ◌+◌, ◌-◌, zero, suc, Bool, true, false, List, [], ◌∷◌, ◌++◌, length, slice_get, refl, sym, ap, ◌∙◌, inl, inr, subst, Some, Result, Ok, Err}
+use Rattle.std.proofs.Common.{◌≡◌, ℕ, ◌+◌, ◌-◌, zero, suc, Bool, true, false, List, [], ◌∷◌, ◌++◌, map, length, slice_get, refl, sym, ap, ◌∙◌, inl, inr, subst, Some, Result, Ok, Err}
 use Rattle.std.proofs.lemmas.List.{map-append}
-use Rattle.fr_value.specs.Data.{value_of}
-use Rattle.fr_value.specs.declared.value.Datum.{Datum}
 use Rattle.fr_value.specs.declared.now.Bad.{Bad}
 use Rattle.fr_core.specs.declared.core_form.Core.{Core, out-Core}
 use Rattle.fr_core.specs.declared.core_form.Core.TheOpen.{Core-F}
-use Rattle.fr_core.specs.declared.kept.Key.TheVariants as key
 use Rattle.fr_core.specs.declared.kept.Kept.{Kept}
 use Rattle.fr_core.specs.declared.kept.Kept.TheVariants as kept
-use Rattle.fr_meaning.specs.Words.{Seen, Done, under, plain, test_of}
-use Rattle.fr_meaning.specs.Primitives.{applied}
-use Rattle.fr_meaning.specs.Cells.{child, datum_cell, payload_cell, behind_datum, behind_payload, under_key}
-use Rattle.fr_meaning.specs.States.{Line, Called, Begun, known, asks, finished, event_begin, map_end, filter_end, keeps, stays, collect_begin, collect_b_end, collect_e_end, map_e, filter_e, merge_e, hold, collect_b, collect_e, changes, once_e, delay, delay_e, fed, feedback}
-use Rattle.fr_meaning.specs.Evaluation.{World, Ev, parts, part, no_parts, join_part, leaf, found, parts_only, after_parts, branch_done, if_done, call_done, body_for, Turns, turned, fold_turns, repeat_turns, list_in, count_in, unless_refused, loop_done, body_with, handler, line_done, layer, eval_to, eval}
-use Rattle.fr_meaning.specs.Order.{Use, Binding, env_of, Traces, IsUsed, AgreeWhereUsed, inner, uses_part, part_uses, given, variable_uses, if_uses, turn_at, turn_uses, fold_uses, repeat_uses, unless_bad, body_uses_with, waits, handler_uses, layer_uses, uses_to, uses}
+use Rattle.fr_meaning.specs.Words.{Seen, Done, under, found, part}
+use Rattle.fr_meaning.specs.Cells.{child}
+use Rattle.fr_meaning.specs.States.{Line, Called, Begun, known, asks, finished, of_operator, of_handler, of_feedback, fed, no_call, handler_begin, handler_end, state_now}
+use Rattle.fr_meaning.specs.Evaluation.{World, Ev, Parts, parts, no_parts, join_part, leaf, after_parts, Choice, choose, choice_kept, choice_done, switch_done, call_done, body_for, Turns, turned, turns, all_turns, rounds, turns_done, body_with, handler, line_done, form_cell, behind_cell, layer, eval_to, eval}
+use Rattle.fr_meaning.specs.Order.{Use, Binding, env_of, Traces, IsUsed, AgreeWhereUsed, part_at, uses_part, part_uses, given, variable_uses, switch_uses, turn_at, turn_uses, turn_scope, loop_uses, unless_bad, body_uses_with, waits, handler_uses, layer_uses, uses_to, uses}
 
 in_front : (p : List ℕ) (us vs : List Use) → IsUsed p us → IsUsed p (us ++ vs)
 in_front p [] vs h = absurd h
@@ -78,10 +74,10 @@ parts_decided : (ev : Ev) (trace : Traces) → Decides ev trace → (scope other
     → AgreeWhereUsed (part_uses trace scope k at i es) scope other → parts ev (env_of scope) k i es ≡ parts ev (env_of other) k i es
 parts_decided ev trace ih scope other k at i [] a = refl
 parts_decided ev trace ih scope other k at i (e ∷ es) a =
-    let one = trace e scope (child k i) (inner at i) in
+    let one = trace e scope (child k i) (part_at at i) in
     let others = part_uses trace scope k at (i + 1) es in
     let b = tail (uses_part at i) (one ++ others) scope other a in
-    rw (ih e scope other (child k i) (inner at i) (front one others scope other b), parts_decided ev trace ih scope other k at (i + 1) es (rest one others scope other b)) refl
+    rw (ih e scope other (child k i) (part_at at i) (front one others scope other b), parts_decided ev trace ih scope other k at (i + 1) es (rest one others scope other b)) refl
 
 -- a body with further variables
 body_decided : (ev : Ev) (trace : Traces) → Decides ev trace → (scope other more : List Binding) (k : Kept) (at : List ℕ) (body : Core)
@@ -97,63 +93,52 @@ given_decided : (ev : Ev) (trace : Traces) → Decides ev trace → (scope other
 given_decided ev trace ih scope other vs k at place body a =
     subst (λ xs. ev body (env_of scope ++ xs) k ≡ ev body (env_of other ++ xs) k) (given_values at 0 vs) (body_decided ev trace ih scope other (given at 0 vs) k place body a)
 
-if_decided : (ev : Ev) (trace : Traces) → Decides ev trace → (scope other : List Binding) (k : Kept) (at : List ℕ) (t : Done) (r : Result Bool Bad) (b c : Core)
-    → AgreeWhereUsed (if_uses trace scope k at r b c) scope other → if_done ev (env_of scope) k t r b c ≡ if_done ev (env_of other) k t r b c
-if_decided ev trace ih scope other k at t (Err bad) b c a = refl
-if_decided ev trace ih scope other k at t (Ok true) b c a =
-    let k1 = under_key (key.Test true) (child k 1) in
-    ap (branch_done t true 1) (ih b scope other k1 (inner at 1) (behind_two (record { by = inner at 1; value_at = inner at 0 }) (uses_part at 1) (trace b scope k1 (inner at 1)) scope other a))
-if_decided ev trace ih scope other k at t (Ok false) b c a =
-    let k1 = under_key (key.Test false) (child k 1) in
-    ap (branch_done t false 2) (ih c scope other k1 (inner at 2) (behind_two (record { by = inner at 2; value_at = inner at 0 }) (uses_part at 2) (trace c scope k1 (inner at 2)) scope other a))
+switch_decided : (ev : Ev) (trace : Traces) → Decides ev trace → (scope other : List Binding) (k : Kept) (at : List ℕ) (t : Done) (r : Result Choice Bad)
+    → AgreeWhereUsed (switch_uses trace scope k at r) scope other → switch_done ev (env_of scope) k t r ≡ switch_done ev (env_of other) k t r
+switch_decided ev trace ih scope other k at t (Err bad) a = refl
+switch_decided ev trace ih scope other k at t (Ok c) a =
+    let n = c.number in
+    ap (choice_done t c) (ih c.expr scope other (choice_kept k c) (part_at at n) (behind_two (record { by = part_at at n; value_at = part_at at 0 }) (uses_part at n) (trace c.expr scope (choice_kept k c) (part_at at n)) scope other a))
 
 -- a turn with these variables is the same in both scopes where they agree at what it uses
 abbrev TurnDecides : Ev → Core → List Binding → List Binding → (List Binding → List ℕ → List Use) → Type 0
 TurnDecides ev body scope other inside = (more : List Binding) (place : List ℕ) → AgreeWhereUsed (inside more place) scope other
     → body_with ev (env_of scope) body (env_of more) ≡ body_with ev (env_of other) body (env_of more)
 
-fold_decided : (ev : Ev) (body : Core) (scope other : List Binding) (inside : List Binding → List ℕ → List Use) → TurnDecides ev body scope other inside
-    → (at : List ℕ) (t : ℕ) (acc : Binding) (ds : List Datum) → AgreeWhereUsed (fold_uses (λ acc x. body_with ev (env_of scope) body (acc ∷ x ∷ [])) inside at t acc ds) scope other
-    → fold_turns (λ acc x. body_with ev (env_of scope) body (acc ∷ x ∷ [])) t acc.value ds ≡ fold_turns (λ acc x. body_with ev (env_of other) body (acc ∷ x ∷ [])) t acc.value ds
-fold_decided ev body scope other inside h at t acc [] a = refl
-fold_decided ev body scope other inside h at t acc (d ∷ ds) a =
-    let turn = λ (acc x : Seen). body_with ev (env_of scope) body (acc ∷ x ∷ []) in
-    let turn' = λ (acc x : Seen). body_with ev (env_of other) body (acc ∷ x ∷ []) in
-    let more : List Binding = acc ∷ record { value = plain (value_of d); place = inner at 1 } ∷ [] in
-    let next : Binding = record { value = (turn acc.value (plain (value_of d))).value; place = turn_at at t } in
-    let us = inside more (turn_at at t) in
-    let others = fold_uses turn inside at (t + 1) next ds in
-    let one = h more (turn_at at t) (behind_two (record { by = turn_at at t; value_at = inner at 1 }) (record { by = at; value_at = turn_at at t }) us scope other (front (turn_uses at t us) others scope other a)) in
-    ap (turned t (turn acc.value (plain (value_of d)))) (fold_decided ev body scope other inside h at (t + 1) next ds (rest (turn_uses at t us) others scope other a))
-    ∙ ap (λ r. turned t r (fold_turns turn' (t + 1) r.value ds)) one
+listed_values : (place : List ℕ) (vs : List Seen) → env_of (map (λ v. record { value = v; place = place }) vs) ≡ vs
+listed_values place [] = refl
+listed_values place (v ∷ vs) = ap (λ xs. v ∷ xs) (listed_values place vs)
 
-repeat_decided : (ev : Ev) (body : Core) (scope other : List Binding) (inside : List Binding → List ℕ → List Use) → TurnDecides ev body scope other inside
-    → (at : List ℕ) (t : ℕ) (acc : Binding) (n : ℕ) → AgreeWhereUsed (repeat_uses (λ acc. body_with ev (env_of scope) body (acc ∷ [])) inside at t acc n) scope other
-    → repeat_turns (λ acc. body_with ev (env_of scope) body (acc ∷ [])) t acc.value n ≡ repeat_turns (λ acc. body_with ev (env_of other) body (acc ∷ [])) t acc.value n
-repeat_decided ev body scope other inside h at t acc zero a = refl
-repeat_decided ev body scope other inside h at t acc (suc n) a =
-    let turn = λ (acc : Seen). body_with ev (env_of scope) body (acc ∷ []) in
-    let turn' = λ (acc : Seen). body_with ev (env_of other) body (acc ∷ []) in
-    let next : Binding = record { value = (turn acc.value).value; place = turn_at at t } in
-    let us = inside (acc ∷ []) (turn_at at t) in
-    let others = repeat_uses turn inside at (t + 1) next n in
-    let one = h (acc ∷ []) (turn_at at t) (behind_two (record { by = turn_at at t; value_at = inner at 1 }) (record { by = at; value_at = turn_at at t }) us scope other (front (turn_uses at t us) others scope other a)) in
-    ap (turned t (turn acc.value)) (repeat_decided ev body scope other inside h at (t + 1) next n (rest (turn_uses at t us) others scope other a))
-    ∙ ap (λ r. turned t r (repeat_turns turn' (t + 1) r.value n)) one
+turns_decided : (ev : Ev) (body : Core) (scope other : List Binding) (inside : List Binding → List ℕ → List Use) → TurnDecides ev body scope other inside
+    → (at : List ℕ) (n t : ℕ) (acc : Binding) (rest : List (List Seen)) → AgreeWhereUsed (loop_uses (body_with ev (env_of scope) body) inside at n t acc rest) scope other
+    → turns (body_with ev (env_of scope) body) t acc.value rest ≡ turns (body_with ev (env_of other) body) t acc.value rest
+turns_decided ev body scope other inside h at n t acc [] a = refl
+turns_decided ev body scope other inside h at n t acc (vs ∷ others) a =
+    let turn = body_with ev (env_of scope) body in
+    let turn' = body_with ev (env_of other) body in
+    let here = turn_at at n t in
+    let next : Binding = record { value = (turn (acc.value ∷ vs)).value; place = here } in
+    let us = inside (turn_scope at acc vs) here in
+    let behind = loop_uses turn inside at n (t + 1) next others in
+    let one = h (turn_scope at acc vs) here (behind_two (record { by = here; value_at = part_at at 1 }) (record { by = at; value_at = here }) us scope other (front (turn_uses at n t us) behind scope other a)) in
+    let same : turn (acc.value ∷ vs) ≡ turn' (acc.value ∷ vs) = subst (λ xs. turn (acc.value ∷ xs) ≡ turn' (acc.value ∷ xs)) (listed_values (part_at at 1) vs) one in
+    ap (turned t (turn (acc.value ∷ vs))) (turns_decided ev body scope other inside h at n (t + 1) next others (rest (turn_uses at n t us) behind scope other a))
+    ∙ ap (λ r. turned t r (turns turn' (t + 1) r.value others)) same
 
-loop_decided : {X : Type 0} → (scope other : List Binding) (turns turns' : X → Turns) (inside : X → List Use) → ((x : X) → AgreeWhereUsed (inside x) scope other → turns x ≡ turns' x) → (r : Result X Bad)
-    → AgreeWhereUsed (unless_bad inside r) scope other → unless_refused turns r ≡ unless_refused turns' r
-loop_decided scope other turns turns' inside h (Err b) a = refl
-loop_decided scope other turns turns' inside h (Ok x) a = h x a
+loop_decided : (ev : Ev) (body : Core) (scope other : List Binding) (inside : List Binding → List ℕ → List Use) → TurnDecides ev body scope other inside
+    → (at : List ℕ) (n : ℕ) (acc : Binding) (r : Result (List (List Seen)) Bad) → AgreeWhereUsed (unless_bad (loop_uses (body_with ev (env_of scope) body) inside at n 0 acc) r) scope other
+    → all_turns (body_with ev (env_of scope) body) acc.value r ≡ all_turns (body_with ev (env_of other) body) acc.value r
+loop_decided ev body scope other inside h at n acc (Err b) a = refl
+loop_decided ev body scope other inside h at n acc (Ok others) a = turns_decided ev body scope other inside h at n 0 acc others a
 
 handler_decided : (ev : Ev) (trace : Traces) → Decides ev trace → (scope other : List Binding) (at : List ℕ) (n : ℕ) (body : Core) (end : List Seen → Called → Line) (b : Begun)
     → AgreeWhereUsed (handler_uses (body_uses_with trace scope body) at n b) scope other
     → finished (handler ev (env_of scope) n body) end b ≡ finished (handler ev (env_of other) n body) end b
 handler_decided ev trace ih scope other at n body end (known l) a = refl
 handler_decided ev trace ih scope other at n body end (asks args) a =
-    let us = trace body (scope ++ given at 0 args) kept.Nothing (inner at n) in
+    let us = trace body (scope ++ given at 0 args) kept.Nothing (part_at at n) in
     let b = tail (uses_part at n) us scope other (rest (waits at n 0 n) (uses_part at n ∷ us) scope other a) in
-    ap (λ d. end args (record { value = d.value; cost = d.cost + 1; first = under n d.first })) (given_decided ev trace ih scope other args kept.Nothing at (inner at n) body b)
+    ap (λ d. end args (record { value = d.value; cost = d.cost + 1; first = under n d.first })) (given_decided ev trace ih scope other args kept.Nothing at (part_at at n) body b)
 
 one_level : (w : World) (ev : Ev) (trace : Traces) → Decides ev trace → (scope other : List Binding) (k : Kept) (at : List ℕ) (l : Core-F Core)
     → AgreeWhereUsed (layer_uses w ev trace scope k at l) scope other → layer w ev (env_of scope) k l ≡ layer w ev (env_of other) k l
@@ -164,95 +149,53 @@ one_level w ev trace ih scope other k at (Core-F.Let es body) a =
     let ps = parts ev (env_of scope) k 0 es in
     let n = length es in
     let us = part_uses trace scope k at 0 es in
-    let vs = trace body (scope ++ given at 0 ps.values) (child k n) (inner at n) in
+    let vs = trace body (scope ++ given at 0 ps.values) (child k n) (part_at at n) in
     let p = parts_decided ev trace ih scope other k at 0 es (front us (uses_part at n ∷ vs) scope other a) in
-    let b = given_decided ev trace ih scope other ps.values (child k n) at (inner at n) body (tail (uses_part at n) vs scope other (rest us (uses_part at n ∷ vs) scope other a)) in
+    let b = given_decided ev trace ih scope other ps.values (child k n) at (part_at at n) body (tail (uses_part at n) vs scope other (rest us (uses_part at n ∷ vs) scope other a)) in
     ap (after_parts n ps) b ∙ ap (λ ps. after_parts n ps (ev body (env_of other ++ ps.values) (child k n))) p
 one_level w ev trace ih scope other k at (Core-F.If test b c) a =
     let t = ev test (env_of scope) (child k 0) in
     let us = part_uses trace scope k at 0 (test ∷ []) in
-    let vs = if_uses trace scope k at (test_of t.value) b c in
-    let one = trace test scope (child k 0) (inner at 0) in
-    let q = ih test scope other (child k 0) (inner at 0) (front one [] scope other (tail (uses_part at 0) (one ++ []) scope other (front us vs scope other a))) in
-    if_decided ev trace ih scope other k at t (test_of t.value) b c (rest us vs scope other a) ∙ ap (λ t. if_done ev (env_of other) k t (test_of t.value) b c) q
+    let vs = switch_uses trace scope k at (choose b c t.value) in
+    let one = trace test scope (child k 0) (part_at at 0) in
+    let q = ih test scope other (child k 0) (part_at at 0) (front one [] scope other (tail (uses_part at 0) (one ++ []) scope other (front us vs scope other a))) in
+    switch_decided ev trace ih scope other k at t (choose b c t.value) (rest us vs scope other a) ∙ ap (λ t. switch_done ev (env_of other) k t (choose b c t.value)) q
 one_level w ev trace ih scope other k at (Core-F.Apply f es) a =
     ap (λ ps. call_done ev k (length es) ps (body_for (slice_get w.functions f.0) (length es))) (parts_decided ev trace ih scope other k at 0 es (front (part_uses trace scope k at 0 es) _ scope other a))
-one_level w ev trace ih scope other k at (Core-F.PrimApp p es) a = ap (λ ps. parts_only (applied p ps.values) ps) (parts_decided ev trace ih scope other k at 0 es a)
-one_level w ev trace ih scope other k at (Core-F.Fold init list body) a =
-    let es = init ∷ list ∷ [] in
+one_level w ev trace ih scope other k at (Core-F.Operator o es) a =
+    ap (λ ps. line_done ps (state_now (of_operator o) (form_cell (of_operator o) k) ps.values no_call)) (parts_decided ev trace ih scope other (behind_cell (of_operator o) k) at 0 es a)
+one_level w ev trace ih scope other k at (Core-F.Handler h es body) a =
+    let inside = behind_cell (of_handler h) k in
+    let cell = form_cell (of_handler h) k in
+    let ps = parts ev (env_of scope) inside 0 es in
+    let us = part_uses trace scope inside at 0 es in
+    let b = handler_begin h cell ps.values in
+    let vs = handler_uses (body_uses_with trace scope body) at (length es) b in
+    ap (line_done ps) (handler_decided ev trace ih scope other at (length es) body (handler_end h) b (rest us vs scope other a))
+    ∙ ap (λ ps. line_done ps (state_now (of_handler h) cell ps.values (handler ev (env_of other) (length es) body))) (parts_decided ev trace ih scope other inside at 0 es (front us vs scope other a))
+one_level w ev trace ih scope other k at (Core-F.Loop l es body) a =
+    let n = length es in
     let ps = parts ev (env_of scope) k 0 es in
     let us = part_uses trace scope k at 0 es in
-    let turn = λ (acc x : Seen). body_with ev (env_of scope) body (acc ∷ x ∷ []) in
-    let turn' = λ (acc x : Seen). body_with ev (env_of other) body (acc ∷ x ∷ []) in
     let inside = body_uses_with trace scope body in
-    let acc : Binding = record { value = part ps 0; place = inner at 0 } in
-    let vs = unless_bad (fold_uses turn inside at 0 acc) (list_in (part ps 1)) in
+    let acc : Binding = record { value = part ps.values 0; place = part_at at 0 } in
+    let r = rounds l (part ps.values 1) in
+    let vs = unless_bad (loop_uses (body_with ev (env_of scope) body) inside at n 0 acc) r in
     let h = λ (more : List Binding) (place : List ℕ). body_decided ev trace ih scope other more kept.Nothing place body in
-    let l = loop_decided scope other (fold_turns turn 0 (part ps 0)) (fold_turns turn' 0 (part ps 0)) (fold_uses turn inside at 0 acc) (fold_decided ev body scope other inside h at 0 acc) (list_in (part ps 1)) (rest us vs scope other a) in
-    ap (loop_done ps) l
-    ∙ ap (λ ps. loop_done ps (unless_refused (fold_turns turn' 0 (part ps 0)) (list_in (part ps 1)))) (parts_decided ev trace ih scope other k at 0 es (front us vs scope other a))
-one_level w ev trace ih scope other k at (Core-F.Repeat init count body) a =
-    let es = init ∷ count ∷ [] in
-    let ps = parts ev (env_of scope) k 0 es in
-    let us = part_uses trace scope k at 0 es in
-    let turn = λ (acc : Seen). body_with ev (env_of scope) body (acc ∷ []) in
-    let turn' = λ (acc : Seen). body_with ev (env_of other) body (acc ∷ []) in
-    let inside = body_uses_with trace scope body in
-    let acc : Binding = record { value = part ps 0; place = inner at 0 } in
-    let vs = unless_bad (repeat_uses turn inside at 0 acc) (count_in (part ps 1)) in
-    let h = λ (more : List Binding) (place : List ℕ). body_decided ev trace ih scope other more kept.Nothing place body in
-    let l = loop_decided scope other (repeat_turns turn 0 (part ps 0)) (repeat_turns turn' 0 (part ps 0)) (repeat_uses turn inside at 0 acc) (repeat_decided ev body scope other inside h at 0 acc) (count_in (part ps 1)) (rest us vs scope other a) in
-    ap (loop_done ps) l
-    ∙ ap (λ ps. loop_done ps (unless_refused (repeat_turns turn' 0 (part ps 0)) (count_in (part ps 1)))) (parts_decided ev trace ih scope other k at 0 es (front us vs scope other a))
-one_level w ev trace ih scope other k at (Core-F.MapE e body) a =
-    let ps = parts ev (env_of scope) k 0 (e ∷ []) in
-    let us = part_uses trace scope k at 0 (e ∷ []) in
-    let vs = handler_uses (body_uses_with trace scope body) at 1 (event_begin (part ps 0)) in
-    ap (line_done ps) (handler_decided ev trace ih scope other at 1 body map_end (event_begin (part ps 0)) (rest us vs scope other a))
-    ∙ ap (λ ps. line_done ps (map_e (handler ev (env_of other) 1 body) (part ps 0))) (parts_decided ev trace ih scope other k at 0 (e ∷ []) (front us vs scope other a))
-one_level w ev trace ih scope other k at (Core-F.FilterE e body) a =
-    let ps = parts ev (env_of scope) k 0 (e ∷ []) in
-    let us = part_uses trace scope k at 0 (e ∷ []) in
-    let vs = handler_uses (body_uses_with trace scope body) at 1 (event_begin (part ps 0)) in
-    ap (line_done ps) (handler_decided ev trace ih scope other at 1 body filter_end (event_begin (part ps 0)) (rest us vs scope other a))
-    ∙ ap (λ ps. line_done ps (filter_e (handler ev (env_of other) 1 body) (part ps 0))) (parts_decided ev trace ih scope other k at 0 (e ∷ []) (front us vs scope other a))
-one_level w ev trace ih scope other k at (Core-F.MergeE es) a = ap (λ ps. line_done ps (merge_e ps.values)) (parts_decided ev trace ih scope other k at 0 es a)
-one_level w ev trace ih scope other k at (Core-F.Hold e init) a =
-    ap (λ ps. line_done ps (hold (datum_cell k) (part ps 0) (part ps 1))) (parts_decided ev trace ih scope other (behind_datum k) at 0 (e ∷ init ∷ []) a)
-one_level w ev trace ih scope other k at (Core-F.CollectB e init body) a =
-    let es = e ∷ init ∷ [] in
-    let ps = parts ev (env_of scope) (behind_datum k) 0 es in
-    let us = part_uses trace scope (behind_datum k) at 0 es in
-    let b = collect_begin keeps (datum_cell k) (part ps 0) (part ps 1) in
-    let vs = handler_uses (body_uses_with trace scope body) at 2 b in
-    ap (line_done ps) (handler_decided ev trace ih scope other at 2 body collect_b_end b (rest us vs scope other a))
-    ∙ ap (λ ps. line_done ps (collect_b (datum_cell k) (handler ev (env_of other) 2 body) (part ps 0) (part ps 1))) (parts_decided ev trace ih scope other (behind_datum k) at 0 es (front us vs scope other a))
-one_level w ev trace ih scope other k at (Core-F.CollectE e init body) a =
-    let es = e ∷ init ∷ [] in
-    let ps = parts ev (env_of scope) (behind_datum k) 0 es in
-    let us = part_uses trace scope (behind_datum k) at 0 es in
-    let b = collect_begin stays (datum_cell k) (part ps 0) (part ps 1) in
-    let vs = handler_uses (body_uses_with trace scope body) at 2 b in
-    ap (line_done ps) (handler_decided ev trace ih scope other at 2 body collect_e_end b (rest us vs scope other a))
-    ∙ ap (λ ps. line_done ps (collect_e (datum_cell k) (handler ev (env_of other) 2 body) (part ps 0) (part ps 1))) (parts_decided ev trace ih scope other (behind_datum k) at 0 es (front us vs scope other a))
-one_level w ev trace ih scope other k at (Core-F.Changes b) a =
-    ap (λ ps. line_done ps (changes (datum_cell k) (part ps 0))) (parts_decided ev trace ih scope other (behind_datum k) at 0 (b ∷ []) a)
-one_level w ev trace ih scope other k at (Core-F.OnceE e) a =
-    ap (λ ps. line_done ps (once_e (datum_cell k) (part ps 0))) (parts_decided ev trace ih scope other (behind_datum k) at 0 (e ∷ []) a)
-one_level w ev trace ih scope other k at (Core-F.Delay init b) a =
-    ap (λ ps. line_done ps (delay (datum_cell k) (part ps 0) (part ps 1))) (parts_decided ev trace ih scope other (behind_datum k) at 0 (init ∷ b ∷ []) a)
-one_level w ev trace ih scope other k at (Core-F.DelayE e) a =
-    ap (λ ps. line_done ps (delay_e (payload_cell k) (part ps 0))) (parts_decided ev trace ih scope other (behind_payload k) at 0 (e ∷ []) a)
+    ap (turns_done n ps) (loop_decided ev body scope other inside h at n acc r (rest us vs scope other a))
+    ∙ ap (λ ps. turns_done n ps (all_turns (body_with ev (env_of other) body) (part ps.values 0) (rounds l (part ps.values 1)))) (parts_decided ev trace ih scope other k at 0 es (front us vs scope other a))
 one_level w ev trace ih scope other k at (Core-F.Feedback init body) a =
-    let i = ev init (env_of scope) (child (behind_datum k) 0) in
-    let more : List Binding = record { value = fed (datum_cell k) i.value; place = inner at 0 } ∷ [] in
-    let us = part_uses trace scope (behind_datum k) at 0 (init ∷ []) in
-    let one = trace init scope (child (behind_datum k) 0) (inner at 0) in
-    let vs = trace body (scope ++ more) (child (behind_datum k) 1) (inner at 1) in
-    let q = ih init scope other (child (behind_datum k) 0) (inner at 0) (front one [] scope other (tail (uses_part at 0) (one ++ []) scope other (front us (uses_part at 1 ∷ vs) scope other a))) in
-    let b = body_decided ev trace ih scope other more (child (behind_datum k) 1) (inner at 1) body (tail (uses_part at 1) vs scope other (rest us (uses_part at 1 ∷ vs) scope other a)) in
-    ap (λ d. line_done (join_part 0 i (join_part 1 d no_parts)) (feedback (datum_cell k) i.value d.value)) b
-    ∙ ap (λ i. let d = ev body (env_of other ++ fed (datum_cell k) i.value ∷ []) (child (behind_datum k) 1) in line_done (join_part 0 i (join_part 1 d no_parts)) (feedback (datum_cell k) i.value d.value)) q
+    let inside = behind_cell of_feedback k in
+    let cell = form_cell of_feedback k in
+    let i = ev init (env_of scope) (child inside 0) in
+    let more : List Binding = record { value = fed cell i.value; place = part_at at 0 } ∷ [] in
+    let us = part_uses trace scope inside at 0 (init ∷ []) in
+    let one = trace init scope (child inside 0) (part_at at 0) in
+    let vs = trace body (scope ++ more) (child inside 1) (part_at at 1) in
+    let q = ih init scope other (child inside 0) (part_at at 0) (front one [] scope other (tail (uses_part at 0) (one ++ []) scope other (front us (uses_part at 1 ∷ vs) scope other a))) in
+    let b = body_decided ev trace ih scope other more (child inside 1) (part_at at 1) body (tail (uses_part at 1) vs scope other (rest us (uses_part at 1 ∷ vs) scope other a)) in
+    let line = λ (i d : Done). line_done (join_part 0 i (join_part 1 d no_parts)) (state_now of_feedback cell (i.value ∷ d.value ∷ []) no_call) in
+    ap (line i) b ∙ ap (λ i. line i (ev body (env_of other ++ fed cell i.value ∷ []) (child inside 1))) q
 
 -- at every number of levels
 pub decided : (n : ℕ) (w : World) → Decides (eval_to n w) (uses_to n w)

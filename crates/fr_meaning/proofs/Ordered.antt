@@ -1,27 +1,22 @@
 -- Each place of an evaluation uses only places that end before it.
-use Rattle.std.proofs.Common.{◌≡◌, ◌<◌, ◌≤◌, ◌⊎◌, ℕ, ◌+◌, ◌-◌, zero, suc, Bool, true, false, List, [], ◌∷◌, ◌++◌, length, slice_get, refl, sym, ap, ◌∙◌, inl, inr, arith, subst, Option, Some, None, Result, Ok, Err}
+use Rattle.std.proofs.Common.{◌≡◌, ◌<◌, ◌≤◌, ◌⊎◌, ℕ, ◌+◌, ◌-◌, zero, suc, Bool, true, false, List, [], ◌∷◌, ◌++◌, map, length, slice_get, refl, sym, ap, ◌∙◌, inl, inr, arith, subst, Option, Some, None, Result, Ok, Err}
 use Rattle.std.proofs.lemmas.Bool.{cases_order}
 use Rattle.std.proofs.lemmas.List.{append_assoc, append-nil}
-use Rattle.fr_value.specs.Data.{value_of}
-use Rattle.fr_value.specs.declared.value.Datum.{Datum}
-use Rattle.fr_value.specs.declared.value.Value.{Value}
 use Rattle.fr_value.specs.declared.now.Now.{Now}
-use Rattle.fr_value.specs.declared.now.Now.TheVariants.{Plain, Occ}
 use Rattle.fr_value.specs.declared.now.Bad.{Bad}
 use Rattle.fr_core.specs.declared.core_form.Core.{Core, out-Core}
 use Rattle.fr_core.specs.declared.core_form.Core.TheOpen.{Core-F}
-use Rattle.fr_core.specs.declared.kept.Key.TheVariants as key
 use Rattle.fr_core.specs.declared.kept.Kept.{Kept}
 use Rattle.fr_core.specs.declared.kept.Kept.TheVariants as kept
 use Rattle.fr_core.specs.declared.program.Item.{Item}
 use Rattle.fr_core.specs.declared.program.Item.TheVariants as item
 use Rattle.fr_core.specs.declared.program.Program.{Program}
-use Rattle.fr_meaning.specs.Words.{Seen, Env, Done, plain, event_of, test_of}
-use Rattle.fr_meaning.specs.Cells.{child, datum_cell, behind_datum, behind_payload, under_key}
-use Rattle.fr_meaning.specs.States.{Line, Begun, known, asks, base_of, fed, keeps, stays, event_begin, asks_both, collect_begin, unless_refused}
-use Rattle.fr_meaning.specs.Evaluation.{World, Ev, parts, part, body_for, body_with, list_in, count_in, eval_to, eval}
-use Rattle.fr_meaning.specs.Agreement.{world_of}
-use Rattle.fr_meaning.specs.Order.{EndsBefore, Use, AreInOrder, Binding, env_of, IsReady, AreReady, Traces, inner, uses_part, part_uses, given, variable_uses, if_uses, call_uses, turn_at, turn_uses, fold_uses, repeat_uses, unless_bad, body_uses_with, waits, handler_uses, layer_uses, uses_to, uses, item_uses, body_uses}
+use Rattle.fr_meaning.specs.Words.{Seen, Env, Done, part, on_ok, test_of}
+use Rattle.fr_meaning.specs.Cells.{child}
+use Rattle.fr_meaning.specs.States.{Begun, known, asks, of_operator, of_handler, of_feedback, fed, handler_begin}
+use Rattle.fr_meaning.specs.Evaluation.{World, world_of, Ev, parts, Choice, chosen_by, choose, choice_kept, body_for, body_with, rounds, form_cell, behind_cell, eval_to, eval}
+use Rattle.fr_meaning.specs.Order.{EndsBefore, Use, AreInOrder, Binding, env_of, IsReady, AreReady, Traces, part_at, uses_part, part_uses, given, variable_uses, switch_uses, call_uses, turn_at, turn_uses, turn_scope, loop_uses, unless_bad, body_uses_with, waits, handler_uses, layer_uses, uses_to, uses, item_uses, body_uses}
+use Rattle.fr_meaning.proofs.Begins.{BeginsWell, begins_well, TurnsWell, rounds_well}
 
 -- a place is never before itself
 pub never_itself : (p : List ℕ) → EndsBefore p p → ⊥
@@ -59,7 +54,7 @@ part_before [] i q = tt
 part_before (a ∷ p) i q = inr (refl, part_before p i q)
 
 -- a part is ready for all parts of a greater number
-part_ready : (at : List ℕ) (i j : ℕ) → i < j → IsReady (inner at i) (inner at j)
+part_ready : (at : List ℕ) (i j : ℕ) → i < j → IsReady (part_at at i) (part_at at j)
 part_ready [] i j l = λ inside. inl l
 part_ready (a ∷ at) i j l = λ inside. inr (refl, part_ready at i j l inside)
 
@@ -77,7 +72,7 @@ all_append : (scope more : List Binding) (at : List ℕ) → AreReady scope at �
 all_append [] more at h g = g
 all_append (v ∷ scope) more at h g = (h.0, all_append scope more at h.1 g)
 
-given_ready : (at : List ℕ) (n i : ℕ) (vs : List Seen) → i + length vs ≤ n → AreReady (given at i vs) (inner at n)
+given_ready : (at : List ℕ) (n i : ℕ) (vs : List Seen) → i + length vs ≤ n → AreReady (given at i vs) (part_at at n)
 given_ready at n i [] l = tt
 given_ready at n i (v ∷ vs) l = (part_ready at i n (omega (arith, l)), given_ready at n (i + 1) vs (omega (arith, l)))
 
@@ -97,25 +92,33 @@ Ordered trace = (e : Core) (scope : List Binding) (k : Kept) (at : List ℕ) →
 parts_ordered : (trace : Traces) → Ordered trace → (scope : List Binding) (k : Kept) (at : List ℕ) → AreReady scope at → (i : ℕ) (es : List Core) → AreInOrder (part_uses trace scope k at i es)
 parts_ordered trace ih scope k at h i [] = tt
 parts_ordered trace ih scope k at h i (e ∷ es) =
-    (part_before at i [], in_order _ _ (ih e scope (child k i) (inner at i) (all_inside scope at (i ∷ []) h)) (parts_ordered trace ih scope k at h (i + 1) es))
+    (part_before at i [], in_order _ _ (ih e scope (child k i) (part_at at i) (all_inside scope at (i ∷ []) h)) (parts_ordered trace ih scope k at h (i + 1) es))
 
 -- the parts, and then what is in order behind them
 behind_parts : (trace : Traces) → Ordered trace → (scope : List Binding) (k : Kept) (at : List ℕ) → AreReady scope at → (es : List Core) (us : List Use) → AreInOrder us
     → AreInOrder (part_uses trace scope k at 0 es ++ us)
 behind_parts trace ih scope k at h es us g = in_order (part_uses trace scope k at 0 es) us (parts_ordered trace ih scope k at h 0 es) g
 
-if_ordered : (trace : Traces) → Ordered trace → (scope : List Binding) (k : Kept) (at : List ℕ) → AreReady scope at → (r : Result Bool Bad) (b c : Core)
-    → AreInOrder (if_uses trace scope k at r b c)
-if_ordered trace ih scope k at h (Err bad) b c = tt
-if_ordered trace ih scope k at h (Ok true) b c =
-    (ready_before (inner at 0) (inner at 1) (part_ready at 0 1 (omega arith)), (part_before at 1 [], ih b scope (under_key (key.Test true) (child k 1)) (inner at 1) (all_inside scope at (1 ∷ []) h)))
-if_ordered trace ih scope k at h (Ok false) b c =
-    (ready_before (inner at 0) (inner at 2) (part_ready at 0 2 (omega arith)), (part_before at 2 [], ih c scope (under_key (key.Test false) (child k 1)) (inner at 2) (all_inside scope at (2 ∷ []) h)))
+-- a switch chooses a part behind the test
+abbrev IsBehindTest : Result Choice Bad → Type 0
+IsBehindTest (Err b) = Unit {0}
+IsBehindTest (Ok c) = 0 < c.number
+
+chosen_behind : (a b : Core) (r : Result Bool Bad) → IsBehindTest (on_ok (chosen_by a b) r)
+chosen_behind a b (Err bad) = tt
+chosen_behind a b (Ok true) = omega arith
+chosen_behind a b (Ok false) = omega arith
+
+switch_ordered : (trace : Traces) → Ordered trace → (scope : List Binding) (k : Kept) (at : List ℕ) → AreReady scope at → (r : Result Choice Bad) → IsBehindTest r → AreInOrder (switch_uses trace scope k at r)
+switch_ordered trace ih scope k at h (Err bad) l = tt
+switch_ordered trace ih scope k at h (Ok c) l =
+    let n = c.number in
+    (ready_before (part_at at 0) (part_at at n) (part_ready at 0 n l), (part_before at n [], ih c.expr scope (choice_kept k c) (part_at at n) (all_inside scope at (n ∷ []) h)))
 
 call_ordered : (trace : Traces) → Ordered trace → (k : Kept) (at : List ℕ) (n : ℕ) (values : List Seen) → length values ≤ n → (body : Option Core)
     → AreInOrder (call_uses trace k at n values body)
 call_ordered trace ih k at n values l None = tt
-call_ordered trace ih k at n values l (Some body) = (part_before at n [], ih body (given at 0 values) (child k n) (inner at n) (given_ready at n 0 values (omega (arith, l))))
+call_ordered trace ih k at n values l (Some body) = (part_before at n [], ih body (given at 0 values) (child k n) (part_at at n) (given_ready at n 0 values (omega (arith, l))))
 
 -- as many values as parts
 parts_length : (ev : Ev) (env : Env) (k : Kept) (i : ℕ) (es : List Core) → length (parts ev env k i es).values ≡ length es
@@ -129,73 +132,44 @@ OrderedBody trace scope = (more : List Binding) (at : List ℕ) → AreReady sco
 body_ordered : (trace : Traces) → Ordered trace → (scope : List Binding) (body : Core) → OrderedBody (body_uses_with trace scope body) scope
 body_ordered trace ih scope body more at h g = ih body (scope ++ more) kept.Nothing at (all_append scope more at h g)
 
-turn_before : (at : List ℕ) (t : ℕ) → EndsBefore (turn_at at t) at
-turn_before at t = subst (λ p. EndsBefore p at) (sym (append_assoc at (2 ∷ []) (t ∷ []))) (part_before at 2 (t ∷ []))
+turn_before : (at : List ℕ) (n t : ℕ) → EndsBefore (turn_at at n t) at
+turn_before at n t = subst (λ p. EndsBefore p at) (sym (append_assoc at (n ∷ []) (t ∷ []))) (part_before at n (t ∷ []))
 
-early_ready : (at : List ℕ) (i t : ℕ) → i < 2 → IsReady (inner at i) (turn_at at t)
-early_ready at i t l = ready_inside (inner at i) (inner at 2) (t ∷ []) (part_ready at i 2 l)
+early_ready : (at : List ℕ) (i n t : ℕ) → i < n → IsReady (part_at at i) (turn_at at n t)
+early_ready at i n t l = ready_inside (part_at at i) (part_at at n) (t ∷ []) (part_ready at i n l)
 
-turn_ready : (scope : List Binding) (at : List ℕ) (t : ℕ) → AreReady scope at → AreReady scope (turn_at at t)
-turn_ready scope at t h = all_inside scope (inner at 2) (t ∷ []) (all_inside scope at (2 ∷ []) h)
+listed_ready : (place at : List ℕ) → IsReady place at → (vs : List Seen) → AreReady (map (λ v. record { value = v; place = place }) vs) at
+listed_ready place at h [] = tt
+listed_ready place at h (v ∷ vs) = (h, listed_ready place at h vs)
 
-turn_ordered : (at : List ℕ) (t : ℕ) (inside : List Use) → AreInOrder inside → AreInOrder (turn_uses at t inside)
-turn_ordered at t inside h = (ready_before (inner at 1) (turn_at at t) (early_ready at 1 t (omega arith)), (turn_before at t, h))
+-- the turns are in order where there are two parts
+turns_ordered : (body : List Seen → Done) (trace : List Binding → List ℕ → List Use) (scope : List Binding) → OrderedBody trace scope → (at : List ℕ) → AreReady scope at → (n : ℕ) → 2 ≤ n
+    → (t : ℕ) (acc : Binding) (rest : List (List Seen)) → IsReady acc.place (turn_at at n t) → AreInOrder (loop_uses body trace at n t acc rest)
+turns_ordered body trace scope ih at h n two t acc [] g = tt
+turns_ordered body trace scope ih at h n two t acc (vs ∷ rest) g =
+    let here = turn_at at n t in
+    let inside = trace (turn_scope at acc vs) here in
+    let list : IsReady (part_at at 1) here = early_ready at 1 n t (omega (arith, two)) in
+    let next : Binding = record { value = (body (acc.value ∷ vs)).value; place = here } in
+    let one = ih (turn_scope at acc vs) here (all_inside scope (part_at at n) (t ∷ []) (all_inside scope at (n ∷ []) h)) (g, listed_ready (part_at at 1) here list vs) in
+    in_order (turn_uses at n t inside) (loop_uses body trace at n (t + 1) next rest) (ready_before (part_at at 1) here list, (turn_before at n t, one))
+    (turns_ordered body trace scope ih at h n two (t + 1) next rest (part_ready (part_at at n) t (t + 1) (omega arith)))
 
-fold_ordered : (body : Seen → Seen → Done) (trace : List Binding → List ℕ → List Use) (scope : List Binding) → OrderedBody trace scope → (at : List ℕ) → AreReady scope at
-    → (t : ℕ) (acc : Binding) (ds : List Datum) → IsReady acc.place (turn_at at t) → AreInOrder (fold_uses body trace at t acc ds)
-fold_ordered body trace scope ih at h t acc [] g = tt
-fold_ordered body trace scope ih at h t acc (d ∷ ds) g =
-    let more = acc ∷ record { value = plain (value_of d); place = inner at 1 } ∷ [] in
-    let ready : AreReady more (turn_at at t) = (g, (early_ready at 1 t (omega arith), tt)) in
-    let next : Binding = record { value = (body acc.value (plain (value_of d))).value; place = turn_at at t } in
-    in_order (turn_uses at t (trace more (turn_at at t))) (fold_uses body trace at (t + 1) next ds)
-    (turn_ordered at t (trace more (turn_at at t)) (ih more (turn_at at t) (turn_ready scope at t h) ready))
-    (fold_ordered body trace scope ih at h (t + 1) next ds (part_ready (inner at 2) t (t + 1) (omega arith)))
-
-repeat_ordered : (body : Seen → Done) (trace : List Binding → List ℕ → List Use) (scope : List Binding) → OrderedBody trace scope → (at : List ℕ) → AreReady scope at
-    → (t : ℕ) (acc : Binding) (n : ℕ) → IsReady acc.place (turn_at at t) → AreInOrder (repeat_uses body trace at t acc n)
-repeat_ordered body trace scope ih at h t acc zero g = tt
-repeat_ordered body trace scope ih at h t acc (suc n) g =
-    let ready : AreReady (acc ∷ []) (turn_at at t) = (g, tt) in
-    let next : Binding = record { value = (body acc.value).value; place = turn_at at t } in
-    in_order (turn_uses at t (trace (acc ∷ []) (turn_at at t))) (repeat_uses body trace at (t + 1) next n)
-    (turn_ordered at t (trace (acc ∷ []) (turn_at at t)) (ih (acc ∷ []) (turn_at at t) (turn_ready scope at t h) ready))
-    (repeat_ordered body trace scope ih at h (t + 1) next n (part_ready (inner at 2) t (t + 1) (omega arith)))
-
-unless_ordered : {X : Type 0} → (turns : X → List Use) → ((x : X) → AreInOrder (turns x)) → (r : Result X Bad) → AreInOrder (unless_bad turns r)
-unless_ordered turns h (Err b) = tt
-unless_ordered turns h (Ok x) = h x
+loop_ordered : (body : List Seen → Done) (trace : List Binding → List ℕ → List Use) (scope : List Binding) → OrderedBody trace scope → (at : List ℕ) → AreReady scope at → (n : ℕ) (acc : Seen)
+    → (r : Result (List (List Seen)) Bad) → TurnsWell n r → AreInOrder (unless_bad (loop_uses body trace at n 0 (record { value = acc; place = part_at at 0 })) r)
+loop_ordered body trace scope ih at h n acc (Err b) two = tt
+loop_ordered body trace scope ih at h n acc (Ok rest) two = turns_ordered body trace scope ih at h n two 0 _ rest (early_ready at 0 n 0 (omega (arith, two)))
 
 waits_ordered : (at : List ℕ) (n i more : ℕ) → i + more ≤ n → AreInOrder (waits at n i more)
 waits_ordered at n i zero l = tt
-waits_ordered at n i (suc more) l = (ready_before (inner at i) (inner at n) (part_ready at i n (omega (arith, l))), waits_ordered at n (i + 1) more (omega (arith, l)))
+waits_ordered at n i (suc more) l = (ready_before (part_at at i) (part_at at n) (part_ready at i n (omega (arith, l))), waits_ordered at n (i + 1) more (omega (arith, l)))
 
--- a handler is called with at most so many arguments
-abbrev AreFew : ℕ → Begun → Type 0
-AreFew n (known l) = Unit {0}
-AreFew n (asks args) = length args ≤ n
-
-handler_ordered : (trace : List Binding → List ℕ → List Use) (scope : List Binding) → OrderedBody trace scope → (at : List ℕ) → AreReady scope at → (n : ℕ) (b : Begun) → AreFew n b
+handler_ordered : (trace : List Binding → List ℕ → List Use) (scope : List Binding) → OrderedBody trace scope → (at : List ℕ) → AreReady scope at → (n : ℕ) (b : Begun) → BeginsWell n b
     → AreInOrder (handler_uses trace at n b)
 handler_ordered trace scope ih at h n (known l) few = tt
 handler_ordered trace scope ih at h n (asks args) few =
     in_order _ _ (waits_ordered at n 0 n (omega arith))
-    (part_before at n [], ih (given at 0 args) (inner at n) (all_inside scope at (n ∷ []) h) (given_ready at n 0 args (omega (arith, few))))
-
-event_few : (e : Seen) → AreFew 1 (event_begin e)
-event_few (Err b) = tt
-event_few (Ok (Plain v)) = tt
-event_few (Ok (Occ None)) = tt
-event_few (Ok (Occ (Some v))) = omega arith
-
-base_few : (quiet : Value → Line) (o : Option Value) (base : Result Value Bad) → AreFew 2 (unless_refused (asks_both quiet o) base)
-base_few quiet o (Err b) = tt
-base_few quiet None (Ok v) = tt
-base_few quiet (Some p) (Ok v) = omega arith
-
-both_few : (quiet : Value → Line) (o : Result (Option Value) Bad) (base : Result Value Bad) → AreFew 2 (unless_refused (λ o. unless_refused (asks_both quiet o) base) o)
-both_few quiet (Err b) base = tt
-both_few quiet (Ok o) base = base_few quiet o base
+    (part_before at n [], ih (given at 0 args) (part_at at n) (all_inside scope at (n ∷ []) h) (given_ready at n 0 args (omega (arith, few))))
 
 one_level : (w : World) (ev : Ev) (trace : Traces) → Ordered trace → (scope : List Binding) (k : Kept) (at : List ℕ) → AreReady scope at → (l : Core-F Core)
     → AreInOrder (layer_uses w ev trace scope k at l)
@@ -206,67 +180,33 @@ one_level w ev trace ih scope k at h (Core-F.Let es body) =
     let vs = (parts ev (env_of scope) k 0 es).values in
     let n = length es in
     let long : length vs ≡ length es = parts_length ev (env_of scope) k 0 es in
-    let ready = all_append scope (given at 0 vs) (inner at n) (all_inside scope at (n ∷ []) h) (given_ready at n 0 vs (omega (arith, long))) in
-    behind_parts trace ih scope k at h es (uses_part at n ∷ trace body (scope ++ given at 0 vs) (child k n) (inner at n)) (part_before at n [], ih body (scope ++ given at 0 vs) (child k n) (inner at n) ready)
-one_level w ev trace ih scope k at h (Core-F.If test b c) =
-    let r = test_of (ev test (env_of scope) (child k 0)).value in
-    behind_parts trace ih scope k at h (test ∷ []) (if_uses trace scope k at r b c) (if_ordered trace ih scope k at h r b c)
+    let ready = all_append scope (given at 0 vs) (part_at at n) (all_inside scope at (n ∷ []) h) (given_ready at n 0 vs (omega (arith, long))) in
+    behind_parts trace ih scope k at h es _ (part_before at n [], ih body (scope ++ given at 0 vs) (child k n) (part_at at n) ready)
+one_level w ev trace ih scope k at h (Core-F.If test a b) =
+    let t = ev test (env_of scope) (child k 0) in
+    behind_parts trace ih scope k at h (test ∷ []) _ (switch_ordered trace ih scope k at h (choose a b t.value) (chosen_behind a b (test_of t.value)))
 one_level w ev trace ih scope k at h (Core-F.Apply f es) =
     let vs = (parts ev (env_of scope) k 0 es).values in
     let body = body_for (slice_get w.functions f.0) (length es) in
     let long : length vs ≡ length es = parts_length ev (env_of scope) k 0 es in
-    behind_parts trace ih scope k at h es (call_uses trace k at (length es) vs body) (call_ordered trace ih k at (length es) vs (omega (arith, long)) body)
-one_level w ev trace ih scope k at h (Core-F.PrimApp p es) = parts_ordered trace ih scope k at h 0 es
-one_level w ev trace ih scope k at h (Core-F.Fold init list body) =
-    let ps = parts ev (env_of scope) k 0 (init ∷ list ∷ []) in
-    let turn = λ (acc x : Seen). body_with ev (env_of scope) body (acc ∷ x ∷ []) in
-    let inside = body_uses_with trace scope body in
-    let acc : Binding = record { value = part ps 0; place = inner at 0 } in
-    let turns = fold_uses turn inside at 0 acc in
-    behind_parts trace ih scope k at h (init ∷ list ∷ []) (unless_bad turns (list_in (part ps 1)))
-    (unless_ordered turns (λ ds. fold_ordered turn inside scope (body_ordered trace ih scope body) at h 0 acc ds (early_ready at 0 0 (omega arith))) (list_in (part ps 1)))
-one_level w ev trace ih scope k at h (Core-F.Repeat init count body) =
-    let ps = parts ev (env_of scope) k 0 (init ∷ count ∷ []) in
-    let turn = λ (acc : Seen). body_with ev (env_of scope) body (acc ∷ []) in
-    let inside = body_uses_with trace scope body in
-    let acc : Binding = record { value = part ps 0; place = inner at 0 } in
-    let turns = repeat_uses turn inside at 0 acc in
-    behind_parts trace ih scope k at h (init ∷ count ∷ []) (unless_bad turns (count_in (part ps 1)))
-    (unless_ordered turns (λ n. repeat_ordered turn inside scope (body_ordered trace ih scope body) at h 0 acc n (early_ready at 0 0 (omega arith))) (count_in (part ps 1)))
-one_level w ev trace ih scope k at h (Core-F.MapE e body) =
-    let b = event_begin (part (parts ev (env_of scope) k 0 (e ∷ [])) 0) in
-    let few = event_few (part (parts ev (env_of scope) k 0 (e ∷ [])) 0) in
-    behind_parts trace ih scope k at h (e ∷ []) (handler_uses (body_uses_with trace scope body) at 1 b)
-    (handler_ordered (body_uses_with trace scope body) scope (body_ordered trace ih scope body) at h 1 b few)
-one_level w ev trace ih scope k at h (Core-F.FilterE e body) =
-    let b = event_begin (part (parts ev (env_of scope) k 0 (e ∷ [])) 0) in
-    let few = event_few (part (parts ev (env_of scope) k 0 (e ∷ [])) 0) in
-    behind_parts trace ih scope k at h (e ∷ []) (handler_uses (body_uses_with trace scope body) at 1 b)
-    (handler_ordered (body_uses_with trace scope body) scope (body_ordered trace ih scope body) at h 1 b few)
-one_level w ev trace ih scope k at h (Core-F.MergeE es) = parts_ordered trace ih scope k at h 0 es
-one_level w ev trace ih scope k at h (Core-F.Hold e init) = parts_ordered trace ih scope (behind_datum k) at h 0 (e ∷ init ∷ [])
-one_level w ev trace ih scope k at h (Core-F.CollectB e init body) =
-    let ps = parts ev (env_of scope) (behind_datum k) 0 (e ∷ init ∷ []) in
-    let b = collect_begin keeps (datum_cell k) (part ps 0) (part ps 1) in
-    let few = both_few keeps (event_of (part ps 0)) (base_of (datum_cell k) (part ps 1)) in
-    behind_parts trace ih scope (behind_datum k) at h (e ∷ init ∷ []) (handler_uses (body_uses_with trace scope body) at 2 b)
-    (handler_ordered (body_uses_with trace scope body) scope (body_ordered trace ih scope body) at h 2 b few)
-one_level w ev trace ih scope k at h (Core-F.CollectE e init body) =
-    let ps = parts ev (env_of scope) (behind_datum k) 0 (e ∷ init ∷ []) in
-    let b = collect_begin stays (datum_cell k) (part ps 0) (part ps 1) in
-    let few = both_few stays (event_of (part ps 0)) (base_of (datum_cell k) (part ps 1)) in
-    behind_parts trace ih scope (behind_datum k) at h (e ∷ init ∷ []) (handler_uses (body_uses_with trace scope body) at 2 b)
-    (handler_ordered (body_uses_with trace scope body) scope (body_ordered trace ih scope body) at h 2 b few)
-one_level w ev trace ih scope k at h (Core-F.Changes b) = parts_ordered trace ih scope (behind_datum k) at h 0 (b ∷ [])
-one_level w ev trace ih scope k at h (Core-F.OnceE e) = parts_ordered trace ih scope (behind_datum k) at h 0 (e ∷ [])
-one_level w ev trace ih scope k at h (Core-F.Delay init b) = parts_ordered trace ih scope (behind_datum k) at h 0 (init ∷ b ∷ [])
-one_level w ev trace ih scope k at h (Core-F.DelayE e) = parts_ordered trace ih scope (behind_payload k) at h 0 (e ∷ [])
+    behind_parts trace ih scope k at h es _ (call_ordered trace ih k at (length es) vs (omega (arith, long)) body)
+one_level w ev trace ih scope k at h (Core-F.Operator o es) = parts_ordered trace ih scope (behind_cell (of_operator o) k) at h 0 es
+one_level w ev trace ih scope k at h (Core-F.Handler g es body) =
+    let inside = behind_cell (of_handler g) k in
+    let vs = (parts ev (env_of scope) inside 0 es).values in
+    let b = handler_begin g (form_cell (of_handler g) k) vs in
+    let well = subst (λ n. BeginsWell n b) (parts_length ev (env_of scope) inside 0 es) (begins_well g (form_cell (of_handler g) k) vs) in
+    behind_parts trace ih scope inside at h es _ (handler_ordered (body_uses_with trace scope body) scope (body_ordered trace ih scope body) at h (length es) b well)
+one_level w ev trace ih scope k at h (Core-F.Loop l es body) =
+    let vs = (parts ev (env_of scope) k 0 es).values in
+    let r = rounds l (part vs 1) in
+    let well = subst (λ n. TurnsWell n r) (parts_length ev (env_of scope) k 0 es) (rounds_well l vs) in
+    behind_parts trace ih scope k at h es _ (loop_ordered (body_with ev (env_of scope) body) (body_uses_with trace scope body) scope (body_ordered trace ih scope body) at h (length es) (part vs 0) r well)
 one_level w ev trace ih scope k at h (Core-F.Feedback init body) =
-    let i = ev init (env_of scope) (child (behind_datum k) 0) in
-    let more : List Binding = record { value = fed (datum_cell k) i.value; place = inner at 0 } ∷ [] in
-    let ready : AreReady more (inner at 1) = (part_ready at 0 1 (omega arith), tt) in
-    behind_parts trace ih scope (behind_datum k) at h (init ∷ []) (uses_part at 1 ∷ trace body (scope ++ more) (child (behind_datum k) 1) (inner at 1))
-    (part_before at 1 [], ih body (scope ++ more) (child (behind_datum k) 1) (inner at 1) (all_append scope more (inner at 1) (all_inside scope at (1 ∷ []) h) ready))
+    let inside = behind_cell of_feedback k in
+    let more : List Binding = record { value = fed (form_cell of_feedback k) (ev init (env_of scope) (child inside 0)).value; place = part_at at 0 } ∷ [] in
+    let ready = all_append scope more (part_at at 1) (all_inside scope at (1 ∷ []) h) (part_ready at 0 1 (omega arith), tt) in
+    behind_parts trace ih scope inside at h (init ∷ []) _ (part_before at 1 [], ih body (scope ++ more) (child inside 1) (part_at at 1) ready)
 
 -- at every number of levels
 pub ordered : (n : ℕ) (w : World) → Ordered (uses_to n w)

@@ -1,0 +1,66 @@
+-- What stands before a handler's call and before a loop's turns: the values that are needed are there.
+use Rattle.std.proofs.Common.{◌≡◌, ◌≤◌, ℕ, suc, List, [], ◌∷◌, length, refl, arith, Option, Some, None, Result, Ok, Err}
+use Rattle.fr_value.specs.declared.now.Bad.{Bad}
+use Rattle.fr_value.specs.declared.value.Value.{Value}
+use Rattle.fr_core.specs.declared.core_form.Handler.{Handler}
+use Rattle.fr_core.specs.declared.core_form.Handler.TheVariants as handler
+use Rattle.fr_core.specs.declared.core_form.Loop.{Loop}
+use Rattle.fr_core.specs.declared.core_form.Loop.TheVariants as loop
+use Rattle.fr_meaning.specs.Words.{Seen, part, event_of}
+use Rattle.fr_meaning.specs.Cells.{Cell}
+use Rattle.fr_meaning.specs.States.{Line, Begun, known, asks, begun_unless_refused, asks_payload, asks_both, base_of, keeps, stays, collect_begin, handler_begin}
+use Rattle.fr_meaning.specs.Evaluation.{rounds}
+
+-- a line that is known costs nothing, and a handler's arguments are given by as many of so many parts
+abbrev pub BeginsWell : ℕ → Begun → Type 0
+BeginsWell n (known l) = l.cost ≡ 0
+BeginsWell n (asks args) = length args ≤ n
+
+event_well : (n : ℕ) (r : Result (Option Value) Bad) → BeginsWell (suc n) (begun_unless_refused asks_payload r)
+event_well n (Err b) = refl
+event_well n (Ok None) = refl
+event_well n (Ok (Some v)) = omega arith
+
+both_well : (quiet : Value → Line) → ((v : Value) → (quiet v).cost ≡ 0) → (n : ℕ) (o : Option Value) (base : Result Value Bad) → BeginsWell (suc (suc n)) (begun_unless_refused (asks_both quiet o) base)
+both_well quiet q n o (Err b) = refl
+both_well quiet q n None (Ok v) = q v
+both_well quiet q n (Some p) (Ok v) = omega arith
+
+collect_well : (quiet : Value → Line) → ((v : Value) → (quiet v).cost ≡ 0) → (cell : Option Cell) (xs : List Seen) → BeginsWell (length xs) (collect_begin quiet cell xs)
+collect_well quiet q cell [] = refl
+collect_well quiet q cell (x ∷ []) = lone (event_of x)
+  where
+    lone : (r : Result (Option Value) Bad) → BeginsWell 1 (begun_unless_refused (λ o. begun_unless_refused (asks_both quiet o) (base_of cell (part (x ∷ []) 1))) r)
+    lone (Err b) = refl
+    lone (Ok o) = refl
+collect_well quiet q cell (x ∷ y ∷ xs) = with_base (event_of x)
+  where
+    with_base : (r : Result (Option Value) Bad) → BeginsWell (suc (suc (length xs))) (begun_unless_refused (λ o. begun_unless_refused (asks_both quiet o) (base_of cell y)) r)
+    with_base (Err b) = refl
+    with_base (Ok o) = both_well quiet q (length xs) o (base_of cell y)
+
+pub begins_well : (h : Handler) (cell : Option Cell) (xs : List Seen) → BeginsWell (length xs) (handler_begin h cell xs)
+begins_well handler.MapE cell [] = refl
+begins_well handler.MapE cell (x ∷ xs) = event_well (length xs) (event_of x)
+begins_well handler.FilterE cell [] = refl
+begins_well handler.FilterE cell (x ∷ xs) = event_well (length xs) (event_of x)
+begins_well handler.CollectB cell xs = collect_well keeps (λ v. refl) cell xs
+begins_well handler.CollectE cell xs = collect_well stays (λ v. refl) cell xs
+
+-- where there are turns, there are two parts
+abbrev pub TurnsWell : ℕ → Result (List (List Seen)) Bad → Type 0
+TurnsWell n (Err b) = Unit {0}
+TurnsWell n (Ok rest) = 2 ≤ n
+
+turns_well : (n : ℕ) (r : Result (List (List Seen)) Bad) → TurnsWell (suc (suc n)) r
+turns_well n (Err b) = tt
+turns_well n (Ok rest) = omega arith
+
+none_well : (l : Loop) (n : ℕ) (b : Bad) → TurnsWell n (rounds l (Err b))
+none_well loop.Fold n b = tt
+none_well loop.Repeat n b = tt
+
+pub rounds_well : (l : Loop) (xs : List Seen) → TurnsWell (length xs) (rounds l (part xs 1))
+rounds_well l [] = none_well l 0 _
+rounds_well l (x ∷ []) = none_well l 1 _
+rounds_well l (x ∷ y ∷ xs) = turns_well (length xs) (rounds l y)
