@@ -1,15 +1,33 @@
--- What stands before a handler's call and before a loop's turns: the values that are needed are there.
-use Rattle.std.proofs.Common.{◌≡◌, ◌≤◌, ℕ, suc, List, [], ◌∷◌, length, refl, arith, Option, Some, None, Result, Ok, Err}
+-- What stands before a switch's choice, a handler's call and a loop's turns: what they need is there.
+use Rattle.std.proofs.Common.{◌≡◌, ◌≤◌, ℕ, suc, Bool, true, false, List, [], ◌∷◌, length, refl, arith, Option, Some, None, Result, Ok, Err}
 use Rattle.fr_value.specs.declared.now.Bad.{Bad}
 use Rattle.fr_value.specs.declared.value.Value.{Value}
+use Rattle.fr_core.specs.declared.core_form.Core.{Core}
 use Rattle.fr_core.specs.declared.core_form.Handler.{Handler}
 use Rattle.fr_core.specs.declared.core_form.Handler.TheVariants as handler
 use Rattle.fr_core.specs.declared.core_form.Loop.{Loop}
 use Rattle.fr_core.specs.declared.core_form.Loop.TheVariants as loop
-use Rattle.fr_meaning.specs.Words.{Seen, part, event_of}
+use Rattle.fr_meaning.specs.Words.{Seen, part, on_ok, event_of, test_of}
 use Rattle.fr_meaning.specs.Cells.{Cell}
 use Rattle.fr_meaning.specs.States.{Line, Begun, known, asks, begun_unless_refused, asks_payload, asks_both, base_of, keeps, stays, collect_begin, handler_begin}
-use Rattle.fr_meaning.specs.Evaluation.{rounds}
+use Rattle.fr_meaning.specs.Evaluation.{Choice, chosen_by, choose, rounds}
+
+-- what holds of a refusal and of either choice holds of what a test chooses
+pub choice_cases : (P : Result Choice Bad → Type 0) (a b : Core) → ((bad : Bad) → P (Err bad)) → P (Ok (chosen_by a b true)) → P (Ok (chosen_by a b false)) → (v : Seen) → P (choose a b v)
+choice_cases P a b refused first second v = cases (test_of v)
+  where
+    cases : (r : Result Bool Bad) → P (on_ok (chosen_by a b) r)
+    cases (Err bad) = refused bad
+    cases (Ok true) = first
+    cases (Ok false) = second
+
+-- a switch chooses a part behind the test
+abbrev pub IsBehindTest : Result Choice Bad → Type 0
+IsBehindTest (Err b) = Unit {0}
+IsBehindTest (Ok c) = 1 ≤ c.number
+
+pub behind_test : (a b : Core) (v : Seen) → IsBehindTest (choose a b v)
+behind_test a b v = choice_cases IsBehindTest a b (λ bad. tt) (omega arith) (omega arith) v
 
 -- a line that is known costs nothing, and a handler's arguments are given by as many of so many parts
 abbrev pub BeginsWell : ℕ → Begun → Type 0

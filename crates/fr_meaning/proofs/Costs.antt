@@ -20,8 +20,8 @@ use Rattle.fr_meaning.specs.States.{Line, Call, Begun, known, asks, of_operator,
 use Rattle.fr_meaning.specs.Evaluation.{World, world_of, Ev, Parts, parts, Choice, chosen_by, choose, choice_kept, switch_done, call_done, body_for, Turns, turns, rounds, all_turns, turns_done, body_with, handler, line_done, form_cell, behind_cell, layer, eval_to, eval}
 use Rattle.fr_meaning.specs.Afresh.{items, body}
 use Rattle.fr_meaning.specs.Places.{Place, costs, IsSumOver, Visits, itself, within, part_places, switch_places, call_places, turn_places, loop_places, handler_places, places_with, layer_places, places_to, places, item_places, body_places}
-use Rattle.fr_meaning.proofs.Begins.{BeginsWell, begins_well}
-use Rattle.fr_meaning.proofs.Blocks.{Blocks, none, block, join, up_to, whole, total_append, costs_within}
+use Rattle.fr_meaning.proofs.Begins.{IsBehindTest, behind_test, BeginsWell, begins_well}
+use Rattle.fr_meaning.proofs.Blocks.{Blocks, none, block, grown, join, next, whole}
 
 -- each evaluation costs the sum over its places
 abbrev Sums : Ev → Visits → Type 0
@@ -30,13 +30,10 @@ Sums ev visits = (e : Core) (env : Env) (k : Kept) → IsSumOver (ev e env k).co
 part_blocks : (ev : Ev) (visits : Visits) → Sums ev visits → (env : Env) (k : Kept) (i : ℕ) (es : List Core)
     → Blocks i (i + length es) (parts ev env k i es).cost (part_places visits env k i es)
 part_blocks ev visits ih env k i [] = none i (i + 0)
-part_blocks ev visits ih env k i (e ∷ es) =
-    let rest = part_blocks ev visits ih env k (i + 1) es in
-    join i (i + 1) (i + 1) (i + length (e ∷ es)) _ _ _ _ (omega arith) (omega arith) (omega arith) (block i _ _ (ih e env (child k i)))
-    (up_to (i + 1) (i + 1 + length es) (i + length (e ∷ es)) _ _ (omega arith) rest)
+part_blocks ev visits ih env k i (e ∷ es) = next i (length es) _ _ _ _ (ih e env (child k i)) (part_blocks ev visits ih env k (i + 1) es)
 
 all_parts : (ev : Ev) (visits : Visits) → Sums ev visits → (env : Env) (k : Kept) (es : List Core) → Blocks 0 (length es) (parts ev env k 0 es).cost (part_places visits env k 0 es)
-all_parts ev visits ih env k es = up_to 0 (0 + length es) (length es) _ _ (omega arith) (part_blocks ev visits ih env k 0 es)
+all_parts ev visits ih env k es = grown 0 (0 + length es) (length es) _ _ (omega arith) (part_blocks ev visits ih env k 0 es)
 
 -- an expression that costs nothing beside its parts
 alone : (hi n : ℕ) (ps : List Place) → Blocks 0 hi n ps → IsSumOver n (itself 0 ∷ ps)
@@ -44,20 +41,10 @@ alone hi n ps h = whole 0 hi 0 n n ps (omega arith) h
 
 -- an expression that costs this beside its parts and a last part
 with_last : (hi n i m own c : ℕ) (ps last : List Place) → hi ≤ i → Blocks 0 hi n ps → IsSumOver m last → own + (n + m) ≡ c → IsSumOver c (itself own ∷ ps ++ within i last)
-with_last hi n i m own c ps last at h l e = whole 0 (i + 1) own (n + m) c _ e (join 0 hi i (i + 1) n m ps (within i last) (omega arith) at (omega arith) h (block i m last l))
+with_last hi n i m own c ps last at h l e = whole 0 (i + 1) own (n + m) c _ e (join 0 i (i + 1) n m ps (within i last) (omega arith) (omega arith) (grown 0 hi i n ps at h) (block i m last l))
 
--- a switch chooses a part behind the test
-abbrev OneBehind : Result Choice Bad → Type 0
-OneBehind (Err b) = Unit {0}
-OneBehind (Ok c) = 1 ≤ c.number
-
-chosen_behind : (a b : Core) (r : Result Bool Bad) → OneBehind (on_ok (chosen_by a b) r)
-chosen_behind a b (Err bad) = tt
-chosen_behind a b (Ok true) = omega arith
-chosen_behind a b (Ok false) = omega arith
-
-switch_sum : (ev : Ev) (visits : Visits) → Sums ev visits → (env : Env) (k : Kept) (t : Done) (test : List Place) → Blocks 0 1 t.cost test → (r : Result Choice Bad)
-    → OneBehind r → IsSumOver (switch_done ev env k t r).cost (switch_places visits env k test r)
+switch_sum : (ev : Ev) (visits : Visits) → Sums ev visits → (env : Env) (k : Kept) (t : Done) (test : List Place) → Blocks 0 1 t.cost test → (r : Result Choice Bad) → IsBehindTest r
+    → IsSumOver (switch_done ev env k t r).cost (switch_places visits env k test r)
 switch_sum ev visits ih env k t test h (Err b) l = alone 1 t.cost test h
 switch_sum ev visits ih env k t test h (Ok c) l = with_last 1 t.cost c.number _ 0 _ test _ l h (ih c.expr env (choice_kept k c)) (omega arith)
 
@@ -66,30 +53,23 @@ call_sum : (ev : Ev) (visits : Visits) → Sums ev visits → (k : Kept) (n : �
 call_sum ev visits ih k n ps arguments h None = alone n ps.cost arguments h
 call_sum ev visits ih k n ps arguments h (Some body) = with_last n ps.cost n _ 1 _ arguments _ (omega arith) h (ih body ps.values (child k n)) (omega arith)
 
-turns_cost : (body : List Seen → Done) (inside : List Seen → List Place) → ((vs : List Seen) → IsSumOver (body vs).cost (inside vs)) → (t : ℕ) (acc : Seen) (rest : List (List Seen))
-    → (turns body t acc rest).cost ≡ length rest + total (costs (turn_places body inside t acc rest))
-turns_cost body inside h t acc [] = omega arith
-turns_cost body inside h t acc (vs ∷ rest) =
-    let r = body (acc ∷ vs) in
-    let others = turns_cost body inside h (t + 1) r.value rest in
-    let all = total_append (within t (inside (acc ∷ vs))) (turn_places body inside (t + 1) r.value rest) in
-    let one = ap total (costs_within t (inside (acc ∷ vs))) ∙ (h (acc ∷ vs)).sum in
-    rw (all, one, others) (omega arith)
-
+-- the turns cost what their places do, and 1 each
 turn_blocks : (body : List Seen → Done) (inside : List Seen → List Place) → ((vs : List Seen) → IsSumOver (body vs).cost (inside vs)) → (t : ℕ) (acc : Seen) (rest : List (List Seen))
-    → Blocks t (t + length rest) (total (costs (turn_places body inside t acc rest))) (turn_places body inside t acc rest)
-turn_blocks body inside h t acc [] = none t (t + 0)
+    → (n : ℕ) × ((turns body t acc rest).cost ≡ length rest + n) × Blocks t (t + length rest) n (turn_places body inside t acc rest)
+turn_blocks body inside h t acc [] = (0, omega arith, none t (t + 0))
 turn_blocks body inside h t acc (vs ∷ rest) =
-    let others = turn_blocks body inside h (t + 1) (body (acc ∷ vs)).value rest in
-    let both = join t (t + 1) (t + 1) (t + length (vs ∷ rest)) _ _ _ _ (omega arith) (omega arith) (omega arith) (block t _ _ (h (acc ∷ vs)))
-    (up_to (t + 1) (t + 1 + length rest) (t + length (vs ∷ rest)) _ _ (omega arith) others) in
-    record { sum = refl; begin = both.begin; distinct = both.distinct }
+    let d = body (acc ∷ vs) in
+    let b = turn_blocks body inside h (t + 1) d.value rest in
+    let cost = b.1 in
+    (d.cost + b.0, omega (arith, cost), next t (length rest) _ _ _ _ (h (acc ∷ vs)) b.2)
 
 loop_sum : (body : List Seen → Done) (inside : List Seen → List Place) → ((vs : List Seen) → IsSumOver (body vs).cost (inside vs)) → (n : ℕ) (ps : Parts) (places : List Place) → Blocks 0 n ps.cost places
     → (acc : Seen) (r : Result (List (List Seen)) Bad) → IsSumOver (turns_done n ps (all_turns body acc r)).cost (loop_places places n (turn_places body inside 0 acc) r)
 loop_sum body inside h n ps places b acc (Err bad) = whole 0 n 0 ps.cost (ps.cost + 0) places (omega arith) b
 loop_sum body inside h n ps places b acc (Ok rest) =
-    with_last n ps.cost n _ (length rest) _ places _ (omega arith) b (record { sum = refl; distinct = (turn_blocks body inside h 0 acc rest).distinct }) (rw (turns_cost body inside h 0 acc rest) (omega arith))
+    let t = turn_blocks body inside h 0 acc rest in
+    let cost = t.1 in
+    with_last n ps.cost n t.0 (length rest) _ places _ (omega arith) b (record { sum = t.2.sum; distinct = t.2.distinct }) (omega (arith, cost))
 
 handler_sum : (ev : Ev) (visits : Visits) → Sums ev visits → (env : Env) (n m : ℕ) (body : Core) (ps : Parts) (places : List Place) → Blocks 0 n ps.cost places → (h : Handler) (b : Begun) → BeginsWell m b
     → IsSumOver (line_done ps (finished (handler ev env n body) (handler_end h) b)).cost (handler_places places n (places_with visits env body) b)
@@ -125,7 +105,7 @@ one_level w ev visits ih env k (Core-F.Let es body) =
     with_last (length es) _ (length es) _ 0 _ _ _ (omega arith) (all_parts ev visits ih env k es) (ih body (env ++ (parts ev env k 0 es).values) (child k (length es))) (omega arith)
 one_level w ev visits ih env k (Core-F.If test a b) =
     let t = ev test env (child k 0) in
-    switch_sum ev visits ih env k t _ (block 0 _ _ (ih test env (child k 0))) (choose a b t.value) (chosen_behind a b (test_of t.value))
+    switch_sum ev visits ih env k t _ (block 0 _ _ (ih test env (child k 0))) (choose a b t.value) (behind_test a b t.value)
 one_level w ev visits ih env k (Core-F.Apply f es) =
     call_sum ev visits ih k (length es) (parts ev env k 0 es) _ (all_parts ev visits ih env k es) (body_for (slice_get w.functions f.0) (length es))
 one_level w ev visits ih env k (Core-F.Operator o es) =
@@ -156,14 +136,8 @@ sums (suc n) w e env k = one_level w (eval_to n w) (places_to n w) (sums n w) en
 item_blocks : (ev : Ev) (visits : Visits) → Sums ev visits → (env : Env) (k : Kept) (i : ℕ) (is : List Item)
     → Blocks i (i + length is) (items ev env k i is).cost (item_places ev visits env k i is)
 item_blocks ev visits ih env k i [] = none i (i + 0)
-item_blocks ev visits ih env k i (item.Define e ∷ is) =
-    let rest = item_blocks ev visits ih (env ++ (ev e env (child k i)).value ∷ []) k (i + 1) is in
-    join i (i + 1) (i + 1) (i + length (item.Define e ∷ is)) _ _ _ _ (omega arith) (omega arith) (omega arith) (block i _ _ (ih e env (child k i)))
-    (up_to (i + 1) (i + 1 + length is) (i + length (item.Define e ∷ is)) _ _ (omega arith) rest)
-item_blocks ev visits ih env k i (item.Show name e ∷ is) =
-    let rest = item_blocks ev visits ih env k (i + 1) is in
-    join i (i + 1) (i + 1) (i + length (item.Show name e ∷ is)) _ _ _ _ (omega arith) (omega arith) (omega arith) (block i _ _ (ih e env (child k i)))
-    (up_to (i + 1) (i + 1 + length is) (i + length (item.Show name e ∷ is)) _ _ (omega arith) rest)
+item_blocks ev visits ih env k i (item.Define e ∷ is) = next i (length is) _ _ _ _ (ih e env (child k i)) (item_blocks ev visits ih (env ++ (ev e env (child k i)).value ∷ []) k (i + 1) is)
+item_blocks ev visits ih env k i (item.Show name e ∷ is) = next i (length is) _ _ _ _ (ih e env (child k i)) (item_blocks ev visits ih env k (i + 1) is)
 
 pub cost_is_a_sum : (w : World) (nest : ℕ) (e : Core) (env : Env) (k : Kept) → IsSumOver (eval w nest e env k).cost (places w nest e env k)
 cost_is_a_sum w nest e env k = sums (2001 - nest) w e env k

@@ -12,6 +12,7 @@ use Rattle.fr_meaning.specs.Cells.{child}
 use Rattle.fr_meaning.specs.States.{Call, of_operator, of_handler, of_feedback, fed, no_call, state_now}
 use Rattle.fr_meaning.specs.Evaluation.{World, Ev, Parts, parts, no_parts, join_part, leaf, after_parts, Choice, chosen_by, choose, choice_kept, choice_done, switch_done, call_done, body_for, all_turns, rounds, turns_done, body_with, handler, line_done, form_cell, behind_cell, layer, eval_to, eval}
 use Rattle.fr_meaning.specs.Dependence.{joined, own_variable, variables_step, variables, AgreeAt}
+use Rattle.fr_meaning.proofs.Begins.{choice_cases}
 use Rattle.fr_meaning.proofs.Each.{Each, each_outer, each_body}
 
 own_variable-map : {X Y : Type 0} (f : X → Y) (l : Core-F X) → own_variable (map-Core X Y f l) ≡ own_variable l
@@ -76,12 +77,6 @@ parts_local ev ih env other k i (e ∷ es) h = rw (ih e env other (child k i) h.
 body_local : (ev : Ev) → Local ev → (env other : Env) (body : Core) → Alike (variables body) env other → body_with ev env body ≡ body_with ev other body
 body_local ev ih env other body h = λ i args. ih body (env ++ args) (other ++ args) kept.Nothing (more (variables body) env other args h) i
 
-switch_local : (ev : Ev) → Local ev → (env other : Env) (k : Kept) (t : Done) (a b : Core) → AlikeAt env other a → AlikeAt env other b → (r : Result Bool Bad)
-    → switch_done ev env k t (on_ok (chosen_by a b) r) ≡ switch_done ev other k t (on_ok (chosen_by a b) r)
-switch_local ev ih env other k t a b ha hb (Err bad) = refl
-switch_local ev ih env other k t a b ha hb (Ok true) = let c = chosen_by a b true in ap (choice_done t c) (ih a env other (choice_kept k c) ha)
-switch_local ev ih env other k t a b ha hb (Ok false) = let c = chosen_by a b false in ap (choice_done t c) (ih b env other (choice_kept k c) hb)
-
 -- a handler's call, from what its body gives
 abbrev calling : ℕ → (List Seen → Done) → Call
 calling n f args = let d = f args in record { value = d.value; cost = d.cost + 1; first = under n d.first }
@@ -99,7 +94,9 @@ one_level w ev ih env other k (Core-F.Let es body) own h =
     ap (after_parts n ps) d ∙ ap (λ ps. after_parts n ps (ev body (other ++ ps.values) (child k n))) (parts_local ev ih env other k 0 es t.0)
 one_level w ev ih env other k (Core-F.If test a b) own h =
     let t = ev test env (child k 0) in
-    switch_local ev ih env other k t a b h.1.0 h.1.1.0 (test_of t.value) ∙ ap (λ t. switch_done ev other k t (choose a b t.value)) (ih test env other (child k 0) h.0)
+    let alike = λ (c : Choice) (g : AlikeAt env other c.expr). ap (choice_done t c) (ih c.expr env other (choice_kept k c) g) in
+    choice_cases (λ r. switch_done ev env k t r ≡ switch_done ev other k t r) a b (λ bad. refl) (alike (chosen_by a b true) h.1.0) (alike (chosen_by a b false) h.1.1.0) t.value
+    ∙ ap (λ t. switch_done ev other k t (choose a b t.value)) (ih test env other (child k 0) h.0)
 one_level w ev ih env other k (Core-F.Apply f es) own h =
     ap (λ ps. call_done ev k (length es) ps (body_for (slice_get w.functions f.0) (length es))) (parts_local ev ih env other k 0 es (each_outer (AlikeAt env other) es h))
 one_level w ev ih env other k (Core-F.Operator o es) own h =

@@ -16,7 +16,7 @@ use Rattle.fr_meaning.specs.Cells.{child}
 use Rattle.fr_meaning.specs.States.{Begun, known, asks, of_operator, of_handler, of_feedback, fed, handler_begin}
 use Rattle.fr_meaning.specs.Evaluation.{World, world_of, Ev, parts, Choice, chosen_by, choose, choice_kept, body_for, body_with, rounds, form_cell, behind_cell, eval_to, eval}
 use Rattle.fr_meaning.specs.Order.{EndsBefore, Use, AreInOrder, Binding, env_of, IsReady, AreReady, Traces, part_at, uses_part, part_uses, given, variable_uses, switch_uses, call_uses, turn_at, turn_uses, turn_scope, loop_uses, unless_bad, body_uses_with, waits, handler_uses, layer_uses, uses_to, uses, item_uses, body_uses}
-use Rattle.fr_meaning.proofs.Begins.{BeginsWell, begins_well, TurnsWell, rounds_well}
+use Rattle.fr_meaning.proofs.Begins.{IsBehindTest, behind_test, BeginsWell, begins_well, TurnsWell, rounds_well}
 
 -- a place is never before itself
 pub never_itself : (p : List ℕ) → EndsBefore p p → ⊥
@@ -99,16 +99,6 @@ behind_parts : (trace : Traces) → Ordered trace → (scope : List Binding) (k 
     → AreInOrder (part_uses trace scope k at 0 es ++ us)
 behind_parts trace ih scope k at h es us g = in_order (part_uses trace scope k at 0 es) us (parts_ordered trace ih scope k at h 0 es) g
 
--- a switch chooses a part behind the test
-abbrev IsBehindTest : Result Choice Bad → Type 0
-IsBehindTest (Err b) = Unit {0}
-IsBehindTest (Ok c) = 0 < c.number
-
-chosen_behind : (a b : Core) (r : Result Bool Bad) → IsBehindTest (on_ok (chosen_by a b) r)
-chosen_behind a b (Err bad) = tt
-chosen_behind a b (Ok true) = omega arith
-chosen_behind a b (Ok false) = omega arith
-
 switch_ordered : (trace : Traces) → Ordered trace → (scope : List Binding) (k : Kept) (at : List ℕ) → AreReady scope at → (r : Result Choice Bad) → IsBehindTest r → AreInOrder (switch_uses trace scope k at r)
 switch_ordered trace ih scope k at h (Err bad) l = tt
 switch_ordered trace ih scope k at h (Ok c) l =
@@ -184,7 +174,7 @@ one_level w ev trace ih scope k at h (Core-F.Let es body) =
     behind_parts trace ih scope k at h es _ (part_before at n [], ih body (scope ++ given at 0 vs) (child k n) (part_at at n) ready)
 one_level w ev trace ih scope k at h (Core-F.If test a b) =
     let t = ev test (env_of scope) (child k 0) in
-    behind_parts trace ih scope k at h (test ∷ []) _ (switch_ordered trace ih scope k at h (choose a b t.value) (chosen_behind a b (test_of t.value)))
+    behind_parts trace ih scope k at h (test ∷ []) _ (switch_ordered trace ih scope k at h (choose a b t.value) (behind_test a b t.value))
 one_level w ev trace ih scope k at h (Core-F.Apply f es) =
     let vs = (parts ev (env_of scope) k 0 es).values in
     let body = body_for (slice_get w.functions f.0) (length es) in

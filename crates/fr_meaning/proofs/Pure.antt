@@ -18,6 +18,7 @@ use Rattle.fr_meaning.specs.Cells.{Cell, child}
 use Rattle.fr_meaning.specs.States.{Line, gives, of_operator, no_call, state_now}
 use Rattle.fr_meaning.specs.Evaluation.{world_of, Ev, Parts, parts, Turns, layer, parts_only, after_parts, Choice, chosen_by, choose, choice_kept, switch_done, call_done, body_for, turns_done, all_turns, rounds, body_with, line_done, behind_cell, eval_to}
 use Rattle.fr_meaning.specs.Agreement.{Agree, IsSteady}
+use Rattle.fr_meaning.proofs.Begins.{choice_cases}
 use Rattle.fr_meaning.proofs.Each.{Each, each_outer, each_body}
 
 -- parts that answer the same, whatever they keep
@@ -61,14 +62,6 @@ after_agree n ps ps' d d' a b = record { value = b.value; cost = rw (a.cost, b.c
 abbrev SteadyChoice : Ev → Result Choice Bad → Type 0
 SteadyChoice ev (Err b) = Unit {0}
 SteadyChoice ev (Ok c) = Steady ev c.expr
-
-choice_steady : (ev : Ev) (a b : Core) → Steady ev a → Steady ev b → (v : Seen) → SteadyChoice ev (choose a b v)
-choice_steady ev a b ha hb v = by_test (test_of v)
-  where
-    by_test : (r : Result Bool Bad) → SteadyChoice ev (on_ok (chosen_by a b) r)
-    by_test (Err bad) = tt
-    by_test (Ok true) = ha
-    by_test (Ok false) = hb
 
 switch_agree : (ev : Ev) (env : Env) (k k' : Kept) (t t' : Done) → Agree t t' → (r : Result Choice Bad) → SteadyChoice ev r → Agree (switch_done ev env k t r) (switch_done ev env k' t' r)
 switch_agree ev env k k' t t' a (Err bad) h = record { value = refl; cost = a.cost; first = rw a.first refl }
@@ -129,7 +122,7 @@ one_level p s fits sources ev ih env k k' (Core-F.Let es body) own h =
     after_agree n _ _ _ _ a d
 one_level p s fits sources ev ih env k k' (Core-F.If test a b) own h =
     let t = ih test h.0 env (child k 0) (child k' 0) in
-    rw (← t.value) (switch_agree ev env k k' _ _ t (choose a b (ev test env (child k 0)).value) (choice_steady ev a b (ih a h.1.0) (ih b h.1.1.0) (ev test env (child k 0)).value))
+    rw (← t.value) (switch_agree ev env k k' _ _ t (choose a b (ev test env (child k 0)).value) (choice_cases (SteadyChoice ev) a b (λ bad. tt) (ih a h.1.0) (ih b h.1.1.0) (ev test env (child k 0)).value))
 one_level p s fits sources ev ih env k k' (Core-F.Apply f es) own h =
     let a = parts_agree (calls_of p s) ev ih env k k' 0 es (each_outer (IsPureIn (calls_of p s)) es h) in
     let over = fits.fits f.0 (both_true (s f.0) (takes (slice_get p.functions f.0) (length es)) own).0 in
