@@ -10,7 +10,7 @@ use Rattle.fr_meaning.specs.Words.{Seen, Done, under, found, part}
 use Rattle.fr_meaning.specs.Cells.{child}
 use Rattle.fr_meaning.specs.States.{Line, Called, Begun, known, asks, finished, of_operator, of_handler, of_feedback, fed, no_call, handler_begin, handler_end, state_now}
 use Rattle.fr_meaning.specs.Evaluation.{World, Ev, Parts, parts, no_parts, join_part, leaf, after_parts, Choice, choose, choice_kept, choice_done, switch_done, call_done, body_for, Turns, turned, turns, all_turns, rounds, turns_done, body_with, handler, line_done, form_cell, behind_cell, layer, eval_to, eval}
-use Rattle.fr_meaning.specs.Order.{Use, Binding, env_of, Traces, IsUsed, AgreeWhereUsed, part_at, uses_part, part_uses, given, variable_uses, switch_uses, turn_at, turn_uses, turn_scope, loop_uses, unless_bad, body_uses_with, waits, handler_uses, layer_uses, uses_to, uses}
+use Rattle.fr_meaning.specs.Order.{Use, Binding, env_of, Traces, IsUsed, AgreeWhereUsed, part_at, uses_part, part_uses, given, given_by_parts, variable_uses, switch_uses, turn_at, turn_uses, turn_scope, loop_uses, unless_bad, body_uses_with, waits, handler_uses, layer_uses, uses_to, uses}
 
 in_front : (p : List ℕ) (us vs : List Use) → IsUsed p us → IsUsed p (us ++ vs)
 in_front p [] vs h = absurd h
@@ -50,9 +50,9 @@ more_agree us [] (o ∷ other) more a = absurd a
 more_agree us (v ∷ scope) [] more a = absurd a
 more_agree us (v ∷ scope) (o ∷ other) more a = (a.0, a.1, more_agree us scope other more a.2)
 
-given_values : (at : List ℕ) (i : ℕ) (vs : List Seen) → env_of (given at i vs) ≡ vs
-given_values at i [] = refl
-given_values at i (v ∷ vs) = ap (λ xs. v ∷ xs) (given_values at (i + 1) vs)
+given_values : (place : ℕ → List ℕ) (i : ℕ) (vs : List Seen) → env_of (given place i vs) ≡ vs
+given_values place i [] = refl
+given_values place i (v ∷ vs) = ap (λ xs. v ∷ xs) (given_values place (i + 1) vs)
 
 variable_at : (us : List Use) (scope other : List Binding) (x : ℕ) → AgreeWhereUsed us scope other → ((v : Binding) → slice_get scope x ≡ Some v → IsUsed v.place us)
     → slice_get (env_of scope) x ≡ slice_get (env_of other) x
@@ -79,19 +79,13 @@ parts_decided ev trace ih scope other k at i (e ∷ es) a =
     let b = tail (uses_part at i) (one ++ others) scope other a in
     rw (ih e scope other (child k i) (part_at at i) (front one others scope other b), parts_decided ev trace ih scope other k at (i + 1) es (rest one others scope other b)) refl
 
--- a body with further variables
-body_decided : (ev : Ev) (trace : Traces) → Decides ev trace → (scope other more : List Binding) (k : Kept) (at : List ℕ) (body : Core)
-    → AgreeWhereUsed (trace body (scope ++ more) k at) scope other → ev body (env_of scope ++ env_of more) k ≡ ev body (env_of other ++ env_of more) k
-body_decided ev trace ih scope other more k at body a =
-    ap (λ env. ev body env k) (sym (map-append (λ v. v.value) scope more))
-    ∙ ih body (scope ++ more) (other ++ more) k at (more_agree (trace body (scope ++ more) k at) scope other more a)
-    ∙ ap (λ env. ev body env k) (map-append (λ v. v.value) other more)
-
--- a body with further values
-given_decided : (ev : Ev) (trace : Traces) → Decides ev trace → (scope other : List Binding) (vs : List Seen) (k : Kept) (at place : List ℕ) (body : Core)
-    → AgreeWhereUsed (trace body (scope ++ given at 0 vs) k place) scope other → ev body (env_of scope ++ vs) k ≡ ev body (env_of other ++ vs) k
-given_decided ev trace ih scope other vs k at place body a =
-    subst (λ xs. ev body (env_of scope ++ xs) k ≡ ev body (env_of other ++ xs) k) (given_values at 0 vs) (body_decided ev trace ih scope other (given at 0 vs) k place body a)
+-- a body with further variables, which have these values
+body_decided : (ev : Ev) (trace : Traces) → Decides ev trace → (scope other more : List Binding) (vs : List Seen) → env_of more ≡ vs → (k : Kept) (at : List ℕ) (body : Core)
+    → AgreeWhereUsed (trace body (scope ++ more) k at) scope other → ev body (env_of scope ++ vs) k ≡ ev body (env_of other ++ vs) k
+body_decided ev trace ih scope other more vs q k at body a =
+    let same = ih body (scope ++ more) (other ++ more) k at (more_agree (trace body (scope ++ more) k at) scope other more a) in
+    subst (λ vs. ev body (env_of scope ++ vs) k ≡ ev body (env_of other ++ vs) k) q
+    (ap (λ env. ev body env k) (sym (map-append (λ v. v.value) scope more)) ∙ same ∙ ap (λ env. ev body env k) (map-append (λ v. v.value) other more))
 
 switch_decided : (ev : Ev) (trace : Traces) → Decides ev trace → (scope other : List Binding) (k : Kept) (at : List ℕ) (t : Done) (r : Result Choice Bad)
     → AgreeWhereUsed (switch_uses trace scope k at r) scope other → switch_done ev (env_of scope) k t r ≡ switch_done ev (env_of other) k t r
@@ -100,45 +94,36 @@ switch_decided ev trace ih scope other k at t (Ok c) a =
     let n = c.number in
     ap (choice_done t c) (ih c.expr scope other (choice_kept k c) (part_at at n) (behind_two (record { by = part_at at n; value_at = part_at at 0 }) (uses_part at n) (trace c.expr scope (choice_kept k c) (part_at at n)) scope other a))
 
--- a turn with these variables is the same in both scopes where they agree at what it uses
-abbrev TurnDecides : Ev → Core → List Binding → List Binding → (List Binding → List ℕ → List Use) → Type 0
-TurnDecides ev body scope other inside = (more : List Binding) (place : List ℕ) → AgreeWhereUsed (inside more place) scope other
-    → body_with ev (env_of scope) body (env_of more) ≡ body_with ev (env_of other) body (env_of more)
-
-listed_values : (place : List ℕ) (vs : List Seen) → env_of (map (λ v. record { value = v; place = place }) vs) ≡ vs
-listed_values place [] = refl
-listed_values place (v ∷ vs) = ap (λ xs. v ∷ xs) (listed_values place vs)
-
-turns_decided : (ev : Ev) (body : Core) (scope other : List Binding) (inside : List Binding → List ℕ → List Use) → TurnDecides ev body scope other inside
-    → (at : List ℕ) (n t : ℕ) (acc : Binding) (rest : List (List Seen)) → AgreeWhereUsed (loop_uses (body_with ev (env_of scope) body) inside at n t acc rest) scope other
+turns_decided : (ev : Ev) (trace : Traces) → Decides ev trace → (scope other : List Binding) (body : Core) (at : List ℕ) (n t : ℕ) (acc : Binding) (rest : List (List Seen))
+    → AgreeWhereUsed (loop_uses (body_with ev (env_of scope) body) (body_uses_with trace scope body) at n t acc rest) scope other
     → turns (body_with ev (env_of scope) body) t acc.value rest ≡ turns (body_with ev (env_of other) body) t acc.value rest
-turns_decided ev body scope other inside h at n t acc [] a = refl
-turns_decided ev body scope other inside h at n t acc (vs ∷ others) a =
-    let turn = body_with ev (env_of scope) body in
-    let turn' = body_with ev (env_of other) body in
+turns_decided ev trace ih scope other body at n t acc [] a = refl
+turns_decided ev trace ih scope other body at n t acc (vs ∷ others) a =
+    let d = body_with ev (env_of scope) body (acc.value ∷ vs) in
     let here = turn_at at n t in
-    let next : Binding = record { value = (turn (acc.value ∷ vs)).value; place = here } in
-    let us = inside (turn_scope at acc vs) here in
-    let behind = loop_uses turn inside at n (t + 1) next others in
-    let one = h (turn_scope at acc vs) here (behind_two (record { by = here; value_at = part_at at 1 }) (record { by = at; value_at = here }) us scope other (front (turn_uses at n t us) behind scope other a)) in
-    let same : turn (acc.value ∷ vs) ≡ turn' (acc.value ∷ vs) = subst (λ xs. turn (acc.value ∷ xs) ≡ turn' (acc.value ∷ xs)) (listed_values (part_at at 1) vs) one in
-    ap (turned t (turn (acc.value ∷ vs))) (turns_decided ev body scope other inside h at n (t + 1) next others (rest (turn_uses at n t us) behind scope other a))
-    ∙ ap (λ r. turned t r (turns turn' (t + 1) r.value others)) same
+    let next : Binding = record { value = d.value; place = here } in
+    let more = turn_scope at acc vs in
+    let us = body_uses_with trace scope body more here in
+    let behind = loop_uses (body_with ev (env_of scope) body) (body_uses_with trace scope body) at n (t + 1) next others in
+    let one = behind_two (record { by = here; value_at = part_at at 1 }) (record { by = at; value_at = here }) us scope other (front (turn_uses at n t us) behind scope other a) in
+    ap (turned t d) (turns_decided ev trace ih scope other body at n (t + 1) next others (rest (turn_uses at n t us) behind scope other a))
+    ∙ ap (λ r. turned t r (turns (body_with ev (env_of other) body) (t + 1) r.value others))
+    (body_decided ev trace ih scope other more (acc.value ∷ vs) (ap (λ vs. acc.value ∷ vs) (given_values (λ i. part_at at 1) 0 vs)) kept.Nothing here body one)
 
-loop_decided : (ev : Ev) (body : Core) (scope other : List Binding) (inside : List Binding → List ℕ → List Use) → TurnDecides ev body scope other inside
-    → (at : List ℕ) (n : ℕ) (acc : Binding) (r : Result (List (List Seen)) Bad) → AgreeWhereUsed (unless_bad (loop_uses (body_with ev (env_of scope) body) inside at n 0 acc) r) scope other
+loop_decided : (ev : Ev) (trace : Traces) → Decides ev trace → (scope other : List Binding) (body : Core) (at : List ℕ) (n : ℕ) (acc : Binding) (r : Result (List (List Seen)) Bad)
+    → AgreeWhereUsed (unless_bad (loop_uses (body_with ev (env_of scope) body) (body_uses_with trace scope body) at n 0 acc) r) scope other
     → all_turns (body_with ev (env_of scope) body) acc.value r ≡ all_turns (body_with ev (env_of other) body) acc.value r
-loop_decided ev body scope other inside h at n acc (Err b) a = refl
-loop_decided ev body scope other inside h at n acc (Ok others) a = turns_decided ev body scope other inside h at n 0 acc others a
+loop_decided ev trace ih scope other body at n acc (Err b) a = refl
+loop_decided ev trace ih scope other body at n acc (Ok others) a = turns_decided ev trace ih scope other body at n 0 acc others a
 
 handler_decided : (ev : Ev) (trace : Traces) → Decides ev trace → (scope other : List Binding) (at : List ℕ) (n : ℕ) (body : Core) (end : List Seen → Called → Line) (b : Begun)
     → AgreeWhereUsed (handler_uses (body_uses_with trace scope body) at n b) scope other
     → finished (handler ev (env_of scope) n body) end b ≡ finished (handler ev (env_of other) n body) end b
 handler_decided ev trace ih scope other at n body end (known l) a = refl
 handler_decided ev trace ih scope other at n body end (asks args) a =
-    let us = trace body (scope ++ given at 0 args) kept.Nothing (part_at at n) in
+    let us = trace body (scope ++ given_by_parts at args) kept.Nothing (part_at at n) in
     let b = tail (uses_part at n) us scope other (rest (waits at n 0 n) (uses_part at n ∷ us) scope other a) in
-    ap (λ d. end args (record { value = d.value; cost = d.cost + 1; first = under n d.first })) (given_decided ev trace ih scope other args kept.Nothing at (part_at at n) body b)
+    ap (λ d. end args (record { value = d.value; cost = d.cost + 1; first = under n d.first })) (body_decided ev trace ih scope other (given_by_parts at args) args (given_values (part_at at) 0 args) kept.Nothing (part_at at n) body b)
 
 one_level : (w : World) (ev : Ev) (trace : Traces) → Decides ev trace → (scope other : List Binding) (k : Kept) (at : List ℕ) (l : Core-F Core)
     → AgreeWhereUsed (layer_uses w ev trace scope k at l) scope other → layer w ev (env_of scope) k l ≡ layer w ev (env_of other) k l
@@ -149,9 +134,9 @@ one_level w ev trace ih scope other k at (Core-F.Let es body) a =
     let ps = parts ev (env_of scope) k 0 es in
     let n = length es in
     let us = part_uses trace scope k at 0 es in
-    let vs = trace body (scope ++ given at 0 ps.values) (child k n) (part_at at n) in
+    let vs = trace body (scope ++ given_by_parts at ps.values) (child k n) (part_at at n) in
     let p = parts_decided ev trace ih scope other k at 0 es (front us (uses_part at n ∷ vs) scope other a) in
-    let b = given_decided ev trace ih scope other ps.values (child k n) at (part_at at n) body (tail (uses_part at n) vs scope other (rest us (uses_part at n ∷ vs) scope other a)) in
+    let b = body_decided ev trace ih scope other (given_by_parts at ps.values) ps.values (given_values (part_at at) 0 ps.values) (child k n) (part_at at n) body (tail (uses_part at n) vs scope other (rest us (uses_part at n ∷ vs) scope other a)) in
     ap (after_parts n ps) b ∙ ap (λ ps. after_parts n ps (ev body (env_of other ++ ps.values) (child k n))) p
 one_level w ev trace ih scope other k at (Core-F.If test b c) a =
     let t = ev test (env_of scope) (child k 0) in
@@ -181,8 +166,7 @@ one_level w ev trace ih scope other k at (Core-F.Loop l es body) a =
     let acc : Binding = record { value = part ps.values 0; place = part_at at 0 } in
     let r = rounds l (part ps.values 1) in
     let vs = unless_bad (loop_uses (body_with ev (env_of scope) body) inside at n 0 acc) r in
-    let h = λ (more : List Binding) (place : List ℕ). body_decided ev trace ih scope other more kept.Nothing place body in
-    ap (turns_done n ps) (loop_decided ev body scope other inside h at n acc r (rest us vs scope other a))
+    ap (turns_done n ps) (loop_decided ev trace ih scope other body at n acc r (rest us vs scope other a))
     ∙ ap (λ ps. turns_done n ps (all_turns (body_with ev (env_of other) body) (part ps.values 0) (rounds l (part ps.values 1)))) (parts_decided ev trace ih scope other k at 0 es (front us vs scope other a))
 one_level w ev trace ih scope other k at (Core-F.Feedback init body) a =
     let inside = behind_cell of_feedback k in
@@ -193,7 +177,7 @@ one_level w ev trace ih scope other k at (Core-F.Feedback init body) a =
     let one = trace init scope (child inside 0) (part_at at 0) in
     let vs = trace body (scope ++ more) (child inside 1) (part_at at 1) in
     let q = ih init scope other (child inside 0) (part_at at 0) (front one [] scope other (tail (uses_part at 0) (one ++ []) scope other (front us (uses_part at 1 ∷ vs) scope other a))) in
-    let b = body_decided ev trace ih scope other more (child inside 1) (part_at at 1) body (tail (uses_part at 1) vs scope other (rest us (uses_part at 1 ∷ vs) scope other a)) in
+    let b = body_decided ev trace ih scope other more (env_of more) refl (child inside 1) (part_at at 1) body (tail (uses_part at 1) vs scope other (rest us (uses_part at 1 ∷ vs) scope other a)) in
     let line = λ (i d : Done). line_done (join_part 0 i (join_part 1 d no_parts)) (state_now of_feedback cell (i.value ∷ d.value ∷ []) no_call) in
     ap (line i) b ∙ ap (λ i. line i (ev body (env_of other ++ fed cell i.value ∷ []) (child inside 1))) q
 

@@ -1,6 +1,5 @@
 pub mod Levels
 mod Examples
-mod PlaceExamples
 pub mod Each
 pub mod Begins
 pub mod Pure

@@ -15,7 +15,7 @@ use Rattle.fr_meaning.specs.Words.{Seen, Env, Done, part, on_ok, test_of}
 use Rattle.fr_meaning.specs.Cells.{child}
 use Rattle.fr_meaning.specs.States.{Begun, known, asks, of_operator, of_handler, of_feedback, fed, handler_begin}
 use Rattle.fr_meaning.specs.Evaluation.{World, world_of, Ev, parts, Choice, chosen_by, choose, choice_kept, body_for, body_with, rounds, form_cell, behind_cell, eval_to, eval}
-use Rattle.fr_meaning.specs.Order.{EndsBefore, Use, AreInOrder, Binding, env_of, IsReady, AreReady, Traces, part_at, uses_part, part_uses, given, variable_uses, switch_uses, call_uses, turn_at, turn_uses, turn_scope, loop_uses, unless_bad, body_uses_with, waits, handler_uses, layer_uses, uses_to, uses, item_uses, body_uses}
+use Rattle.fr_meaning.specs.Order.{EndsBefore, Use, AreInOrder, Binding, env_of, IsReady, AreReady, Traces, part_at, uses_part, part_uses, given, given_by_parts, variable_uses, switch_uses, call_uses, turn_at, turn_uses, turn_scope, loop_uses, unless_bad, body_uses_with, waits, handler_uses, layer_uses, uses_to, uses, item_uses, body_uses}
 use Rattle.fr_meaning.proofs.Begins.{IsBehindTest, behind_test, BeginsWell, begins_well, TurnsWell, rounds_well}
 
 -- a place is never before itself
@@ -72,9 +72,12 @@ all_append : (scope more : List Binding) (at : List ℕ) → AreReady scope at �
 all_append [] more at h g = g
 all_append (v ∷ scope) more at h g = (h.0, all_append scope more at h.1 g)
 
-given_ready : (at : List ℕ) (n i : ℕ) (vs : List Seen) → i + length vs ≤ n → AreReady (given at i vs) (part_at at n)
-given_ready at n i [] l = tt
-given_ready at n i (v ∷ vs) l = (part_ready at i n (omega (arith, l)), given_ready at n (i + 1) vs (omega (arith, l)))
+given_ready : (place : ℕ → List ℕ) (at : List ℕ) (i : ℕ) (vs : List Seen) → ((j : ℕ) → j < i + length vs → IsReady (place j) at) → AreReady (given place i vs) at
+given_ready place at i [] h = tt
+given_ready place at i (v ∷ vs) h = (h i (omega arith), given_ready place at (i + 1) vs (λ j l. h j (omega (arith, l))))
+
+given_by_parts_ready : (at : List ℕ) (n : ℕ) (vs : List Seen) → length vs ≤ n → AreReady (given_by_parts at vs) (part_at at n)
+given_by_parts_ready at n vs few = given_ready (part_at at) (part_at at n) 0 vs (λ j l. part_ready at j n (omega (arith, l, few)))
 
 in_order : (us vs : List Use) → AreInOrder us → AreInOrder vs → AreInOrder (us ++ vs)
 in_order [] vs h g = g
@@ -108,7 +111,7 @@ switch_ordered trace ih scope k at h (Ok c) l =
 call_ordered : (trace : Traces) → Ordered trace → (k : Kept) (at : List ℕ) (n : ℕ) (values : List Seen) → length values ≤ n → (body : Option Core)
     → AreInOrder (call_uses trace k at n values body)
 call_ordered trace ih k at n values l None = tt
-call_ordered trace ih k at n values l (Some body) = (part_before at n [], ih body (given at 0 values) (child k n) (part_at at n) (given_ready at n 0 values (omega (arith, l))))
+call_ordered trace ih k at n values l (Some body) = (part_before at n [], ih body (given_by_parts at values) (child k n) (part_at at n) (given_by_parts_ready at n values l))
 
 -- as many values as parts
 parts_length : (ev : Ev) (env : Env) (k : Kept) (i : ℕ) (es : List Core) → length (parts ev env k i es).values ≡ length es
@@ -128,10 +131,6 @@ turn_before at n t = subst (λ p. EndsBefore p at) (sym (append_assoc at (n ∷ 
 early_ready : (at : List ℕ) (i n t : ℕ) → i < n → IsReady (part_at at i) (turn_at at n t)
 early_ready at i n t l = ready_inside (part_at at i) (part_at at n) (t ∷ []) (part_ready at i n l)
 
-listed_ready : (place at : List ℕ) → IsReady place at → (vs : List Seen) → AreReady (map (λ v. record { value = v; place = place }) vs) at
-listed_ready place at h [] = tt
-listed_ready place at h (v ∷ vs) = (h, listed_ready place at h vs)
-
 -- the turns are in order where there are two parts
 turns_ordered : (body : List Seen → Done) (trace : List Binding → List ℕ → List Use) (scope : List Binding) → OrderedBody trace scope → (at : List ℕ) → AreReady scope at → (n : ℕ) → 2 ≤ n
     → (t : ℕ) (acc : Binding) (rest : List (List Seen)) → IsReady acc.place (turn_at at n t) → AreInOrder (loop_uses body trace at n t acc rest)
@@ -141,7 +140,7 @@ turns_ordered body trace scope ih at h n two t acc (vs ∷ rest) g =
     let inside = trace (turn_scope at acc vs) here in
     let list : IsReady (part_at at 1) here = early_ready at 1 n t (omega (arith, two)) in
     let next : Binding = record { value = (body (acc.value ∷ vs)).value; place = here } in
-    let one = ih (turn_scope at acc vs) here (all_inside scope (part_at at n) (t ∷ []) (all_inside scope at (n ∷ []) h)) (g, listed_ready (part_at at 1) here list vs) in
+    let one = ih (turn_scope at acc vs) here (all_inside scope (part_at at n) (t ∷ []) (all_inside scope at (n ∷ []) h)) (g, given_ready (λ i. part_at at 1) here 0 vs (λ j l. list)) in
     in_order (turn_uses at n t inside) (loop_uses body trace at n (t + 1) next rest) (ready_before (part_at at 1) here list, (turn_before at n t, one))
     (turns_ordered body trace scope ih at h n two (t + 1) next rest (part_ready (part_at at n) t (t + 1) (omega arith)))
 
@@ -159,7 +158,7 @@ handler_ordered : (trace : List Binding → List ℕ → List Use) (scope : List
 handler_ordered trace scope ih at h n (known l) few = tt
 handler_ordered trace scope ih at h n (asks args) few =
     in_order _ _ (waits_ordered at n 0 n (omega arith))
-    (part_before at n [], ih (given at 0 args) (part_at at n) (all_inside scope at (n ∷ []) h) (given_ready at n 0 args (omega (arith, few))))
+    (part_before at n [], ih (given_by_parts at args) (part_at at n) (all_inside scope at (n ∷ []) h) (given_by_parts_ready at n args few))
 
 one_level : (w : World) (ev : Ev) (trace : Traces) → Ordered trace → (scope : List Binding) (k : Kept) (at : List ℕ) → AreReady scope at → (l : Core-F Core)
     → AreInOrder (layer_uses w ev trace scope k at l)
@@ -170,8 +169,8 @@ one_level w ev trace ih scope k at h (Core-F.Let es body) =
     let vs = (parts ev (env_of scope) k 0 es).values in
     let n = length es in
     let long : length vs ≡ length es = parts_length ev (env_of scope) k 0 es in
-    let ready = all_append scope (given at 0 vs) (part_at at n) (all_inside scope at (n ∷ []) h) (given_ready at n 0 vs (omega (arith, long))) in
-    behind_parts trace ih scope k at h es _ (part_before at n [], ih body (scope ++ given at 0 vs) (child k n) (part_at at n) ready)
+    let ready = all_append scope (given_by_parts at vs) (part_at at n) (all_inside scope at (n ∷ []) h) (given_by_parts_ready at n vs (omega (arith, long))) in
+    behind_parts trace ih scope k at h es _ (part_before at n [], ih body (scope ++ given_by_parts at vs) (child k n) (part_at at n) ready)
 one_level w ev trace ih scope k at h (Core-F.If test a b) =
     let t = ev test (env_of scope) (child k 0) in
     behind_parts trace ih scope k at h (test ∷ []) _ (switch_ordered trace ih scope k at h (choose a b t.value) (behind_test a b t.value))
