@@ -92,38 +92,10 @@ variable_in_order at (v ∷ scope) (suc x) h = variable_in_order at scope x h.1
 abbrev Ordered : Traces → Type 0
 Ordered trace = (e : Core) (scope : List Binding) (k : Kept) (at : List ℕ) → AreReady scope at → AreInOrder (trace e scope k at)
 
-parts_ordered : (trace : Traces) → Ordered trace → (scope : List Binding) (k : Kept) (at : List ℕ) → AreReady scope at → (i : ℕ) (es : List Core) → AreInOrder (part_uses trace scope k at i es)
-parts_ordered trace ih scope k at h i [] = tt
-parts_ordered trace ih scope k at h i (e ∷ es) =
-    (part_before at i [], in_order _ _ (ih e scope (child k i) (part_at at i) (all_inside scope at (i ∷ []) h)) (parts_ordered trace ih scope k at h (i + 1) es))
-
--- the parts, and then what is in order behind them
-behind_parts : (trace : Traces) → Ordered trace → (scope : List Binding) (k : Kept) (at : List ℕ) → AreReady scope at → (es : List Core) (us : List Use) → AreInOrder us
-    → AreInOrder (part_uses trace scope k at 0 es ++ us)
-behind_parts trace ih scope k at h es us g = in_order (part_uses trace scope k at 0 es) us (parts_ordered trace ih scope k at h 0 es) g
-
-switch_ordered : (trace : Traces) → Ordered trace → (scope : List Binding) (k : Kept) (at : List ℕ) → AreReady scope at → (r : Result Choice Bad) → IsBehindTest r → AreInOrder (switch_uses trace scope k at r)
-switch_ordered trace ih scope k at h (Err bad) l = tt
-switch_ordered trace ih scope k at h (Ok c) l =
-    let n = c.number in
-    (ready_before (part_at at 0) (part_at at n) (part_ready at 0 n l), (part_before at n [], ih c.expr scope (choice_kept k c) (part_at at n) (all_inside scope at (n ∷ []) h)))
-
-call_ordered : (trace : Traces) → Ordered trace → (k : Kept) (at : List ℕ) (n : ℕ) (values : List Seen) → length values ≤ n → (body : Option Core)
-    → AreInOrder (call_uses trace k at n values body)
-call_ordered trace ih k at n values l None = tt
-call_ordered trace ih k at n values l (Some body) = (part_before at n [], ih body (given_by_parts at values) (child k n) (part_at at n) (given_by_parts_ready at n values l))
-
 -- as many values as parts
 parts_length : (ev : Ev) (env : Env) (k : Kept) (i : ℕ) (es : List Core) → length (parts ev env k i es).values ≡ length es
 parts_length ev env k i [] = refl
 parts_length ev env k i (e ∷ es) = ap suc (parts_length ev env k (i + 1) es)
-
--- a body is in order at a place for which its scope and what is added are ready
-abbrev OrderedBody : (List Binding → List ℕ → List Use) → List Binding → Type 0
-OrderedBody trace scope = (more : List Binding) (at : List ℕ) → AreReady scope at → AreReady more at → AreInOrder (trace more at)
-
-body_ordered : (trace : Traces) → Ordered trace → (scope : List Binding) (body : Core) → OrderedBody (body_uses_with trace scope body) scope
-body_ordered trace ih scope body more at h g = ih body (scope ++ more) kept.Nothing at (all_append scope more at h g)
 
 turn_before : (at : List ℕ) (n t : ℕ) → EndsBefore (turn_at at n t) at
 turn_before at n t = subst (λ p. EndsBefore p at) (sym (append_assoc at (n ∷ []) (t ∷ []))) (part_before at n (t ∷ []))
@@ -131,77 +103,91 @@ turn_before at n t = subst (λ p. EndsBefore p at) (sym (append_assoc at (n ∷ 
 early_ready : (at : List ℕ) (i n t : ℕ) → i < n → IsReady (part_at at i) (turn_at at n t)
 early_ready at i n t l = ready_inside (part_at at i) (part_at at n) (t ∷ []) (part_ready at i n l)
 
--- the turns are in order where there are two parts
-turns_ordered : (body : List Seen → Done) (trace : List Binding → List ℕ → List Use) (scope : List Binding) → OrderedBody trace scope → (at : List ℕ) → AreReady scope at → (n : ℕ) → 2 ≤ n
-    → (t : ℕ) (acc : Binding) (rest : List (List Seen)) → IsReady acc.place (turn_at at n t) → AreInOrder (loop_uses body trace at n t acc rest)
-turns_ordered body trace scope ih at h n two t acc [] g = tt
-turns_ordered body trace scope ih at h n two t acc (vs ∷ rest) g =
-    let here = turn_at at n t in
-    let inside = trace (turn_scope at acc vs) here in
-    let list : IsReady (part_at at 1) here = early_ready at 1 n t (omega (arith, two)) in
-    let next : Binding = record { value = (body (acc.value ∷ vs)).value; place = here } in
-    let one = ih (turn_scope at acc vs) here (all_inside scope (part_at at n) (t ∷ []) (all_inside scope at (n ∷ []) h)) (g, given_ready (λ i. part_at at 1) here 0 vs (λ j l. list)) in
-    in_order (turn_uses at n t inside) (loop_uses body trace at n (t + 1) next rest) (ready_before (part_at at 1) here list, (turn_before at n t, one))
-    (turns_ordered body trace scope ih at h n two (t + 1) next rest (part_ready (part_at at n) t (t + 1) (omega arith)))
-
-loop_ordered : (body : List Seen → Done) (trace : List Binding → List ℕ → List Use) (scope : List Binding) → OrderedBody trace scope → (at : List ℕ) → AreReady scope at → (n : ℕ) (acc : Seen)
-    → (r : Result (List (List Seen)) Bad) → TurnsWell n r → AreInOrder (unless_bad (loop_uses body trace at n 0 (record { value = acc; place = part_at at 0 })) r)
-loop_ordered body trace scope ih at h n acc (Err b) two = tt
-loop_ordered body trace scope ih at h n acc (Ok rest) two = turns_ordered body trace scope ih at h n two 0 _ rest (early_ready at 0 n 0 (omega (arith, two)))
-
 waits_ordered : (at : List ℕ) (n i more : ℕ) → i + more ≤ n → AreInOrder (waits at n i more)
 waits_ordered at n i zero l = tt
 waits_ordered at n i (suc more) l = (ready_before (part_at at i) (part_at at n) (part_ready at i n (omega (arith, l))), waits_ordered at n (i + 1) more (omega (arith, l)))
 
-handler_ordered : (trace : List Binding → List ℕ → List Use) (scope : List Binding) → OrderedBody trace scope → (at : List ℕ) → AreReady scope at → (n : ℕ) (b : Begun) → BeginsWell n b
-    → AreInOrder (handler_uses trace at n b)
-handler_ordered trace scope ih at h n (known l) few = tt
-handler_ordered trace scope ih at h n (asks args) few =
-    in_order _ _ (waits_ordered at n 0 n (omega arith))
-    (part_before at n [], ih (given_by_parts at args) (part_at at n) (all_inside scope at (n ∷ []) h) (given_by_parts_ready at n args few))
+module _ (trace : Traces) (ih : Ordered trace) (scope : List Binding) (at : List ℕ) (h : AreReady scope at) where
+  part_scope : (n : ℕ) → AreReady scope (part_at at n)
+  part_scope n = all_inside scope at (n ∷ []) h
 
-one_level : (w : World) (ev : Ev) (trace : Traces) → Ordered trace → (scope : List Binding) (k : Kept) (at : List ℕ) → AreReady scope at → (l : Core-F Core)
-    → AreInOrder (layer_uses w ev trace scope k at l)
-one_level w ev trace ih scope k at h (Core-F.Lit v) = tt
-one_level w ev trace ih scope k at h (Core-F.Var x) = variable_in_order at scope x.0 h
-one_level w ev trace ih scope k at h (Core-F.Source s) = tt
-one_level w ev trace ih scope k at h (Core-F.Let es body) =
-    let vs = (parts ev (env_of scope) k 0 es).values in
-    let n = length es in
-    let long : length vs ≡ length es = parts_length ev (env_of scope) k 0 es in
-    let ready = all_append scope (given_by_parts at vs) (part_at at n) (all_inside scope at (n ∷ []) h) (given_by_parts_ready at n vs (omega (arith, long))) in
-    behind_parts trace ih scope k at h es _ (part_before at n [], ih body (scope ++ given_by_parts at vs) (child k n) (part_at at n) ready)
-one_level w ev trace ih scope k at h (Core-F.If test a b) =
-    let t = ev test (env_of scope) (child k 0) in
-    behind_parts trace ih scope k at h (test ∷ []) _ (switch_ordered trace ih scope k at h (choose a b t.value) (behind_test a b t.value))
-one_level w ev trace ih scope k at h (Core-F.Apply f es) =
-    let vs = (parts ev (env_of scope) k 0 es).values in
-    let body = body_for (slice_get w.functions f.0) (length es) in
-    let long : length vs ≡ length es = parts_length ev (env_of scope) k 0 es in
-    behind_parts trace ih scope k at h es _ (call_ordered trace ih k at (length es) vs (omega (arith, long)) body)
-one_level w ev trace ih scope k at h (Core-F.Operator o es) = parts_ordered trace ih scope (behind_cell (of_operator o) k) at h 0 es
-one_level w ev trace ih scope k at h (Core-F.Handler g es body) =
-    let inside = behind_cell (of_handler g) k in
-    let vs = (parts ev (env_of scope) inside 0 es).values in
-    let b = handler_begin g (form_cell (of_handler g) k) vs in
-    let well = subst (λ n. BeginsWell n b) (parts_length ev (env_of scope) inside 0 es) (begins_well g (form_cell (of_handler g) k) vs) in
-    behind_parts trace ih scope inside at h es _ (handler_ordered (body_uses_with trace scope body) scope (body_ordered trace ih scope body) at h (length es) b well)
-one_level w ev trace ih scope k at h (Core-F.Loop l es body) =
-    let vs = (parts ev (env_of scope) k 0 es).values in
-    let r = rounds l (part vs 1) in
-    let well = subst (λ n. TurnsWell n r) (parts_length ev (env_of scope) k 0 es) (rounds_well l vs) in
-    behind_parts trace ih scope k at h es _ (loop_ordered (body_with ev (env_of scope) body) (body_uses_with trace scope body) scope (body_ordered trace ih scope body) at h (length es) (part vs 0) r well)
-one_level w ev trace ih scope k at h (Core-F.Feedback init body) =
-    let inside = behind_cell of_feedback k in
-    let more : List Binding = record { value = fed (form_cell of_feedback k) (ev init (env_of scope) (child inside 0)).value; place = part_at at 0 } ∷ [] in
-    let ready = all_append scope more (part_at at 1) (all_inside scope at (1 ∷ []) h) (part_ready at 0 1 (omega arith), tt) in
-    behind_parts trace ih scope inside at h (init ∷ []) _ (part_before at 1 [], ih body (scope ++ more) (child inside 1) (part_at at 1) ready)
+  parts_ordered : (k : Kept) (i : ℕ) (es : List Core) → AreInOrder (part_uses trace scope k at i es)
+  parts_ordered k i [] = tt
+  parts_ordered k i (e ∷ es) = (part_before at i [], in_order _ _ (ih e scope (child k i) (part_at at i) (part_scope i)) (parts_ordered k (i + 1) es))
+
+  -- the parts, and then what is in order behind them
+  behind_parts : (k : Kept) (es : List Core) (us : List Use) → AreInOrder us → AreInOrder (part_uses trace scope k at 0 es ++ us)
+  behind_parts k es us g = in_order (part_uses trace scope k at 0 es) us (parts_ordered k 0 es) g
+
+  switch_ordered : (k : Kept) (r : Result Choice Bad) → IsBehindTest r → AreInOrder (switch_uses trace scope k at r)
+  switch_ordered k (Err bad) l = tt
+  switch_ordered k (Ok c) l =
+      (ready_before (part_at at 0) (part_at at c.number) (part_ready at 0 c.number l), (part_before at c.number [], ih c.expr scope (choice_kept k c) (part_at at c.number) (part_scope c.number)))
+
+  call_ordered : (k : Kept) (n : ℕ) (values : List Seen) → length values ≤ n → (body : Option Core) → AreInOrder (call_uses trace k at n values body)
+  call_ordered k n values l None = tt
+  call_ordered k n values l (Some body) = (part_before at n [], ih body (given_by_parts at values) (child k n) (part_at at n) (given_by_parts_ready at n values l))
+
+  handler_ordered : (body : Core) (n : ℕ) (b : Begun) → BeginsWell n b → AreInOrder (handler_uses (body_uses_with trace scope body) at n b)
+  handler_ordered body n (known l) few = tt
+  handler_ordered body n (asks args) few =
+      let ready = all_append scope (given_by_parts at args) (part_at at n) (part_scope n) (given_by_parts_ready at n args few) in
+      in_order _ _ (waits_ordered at n 0 n (omega arith)) (part_before at n [], ih body (scope ++ given_by_parts at args) kept.Nothing (part_at at n) ready)
+
+  -- the turns are in order where there are two parts
+  turns_ordered : (ev : List Seen → Done) (body : Core) (n : ℕ) → 2 ≤ n → (t : ℕ) (acc : Binding) (rest : List (List Seen)) → IsReady acc.place (turn_at at n t)
+      → AreInOrder (loop_uses ev (body_uses_with trace scope body) at n t acc rest)
+  turns_ordered ev body n two t acc [] g = tt
+  turns_ordered ev body n two t acc (vs ∷ rest) g =
+      let here = turn_at at n t in
+      let more = turn_scope at acc vs in
+      let list : IsReady (part_at at 1) here = early_ready at 1 n t (omega (arith, two)) in
+      let next : Binding = record { value = (ev (acc.value ∷ vs)).value; place = here } in
+      let ready = all_append scope more here (all_inside scope (part_at at n) (t ∷ []) (part_scope n)) (g, given_ready (λ i. part_at at 1) here 0 vs (λ j l. list)) in
+      let one = ih body (scope ++ more) kept.Nothing here ready in
+      in_order (turn_uses at n t (body_uses_with trace scope body more here)) _ (ready_before (part_at at 1) here list, (turn_before at n t, one))
+      (turns_ordered ev body n two (t + 1) next rest (part_ready (part_at at n) t (t + 1) (omega arith)))
+
+  loop_ordered : (ev : List Seen → Done) (body : Core) (n : ℕ) (acc : Seen) (r : Result (List (List Seen)) Bad) → TurnsWell n r
+      → AreInOrder (unless_bad (loop_uses ev (body_uses_with trace scope body) at n 0 (record { value = acc; place = part_at at 0 })) r)
+  loop_ordered ev body n acc (Err b) two = tt
+  loop_ordered ev body n acc (Ok rest) two = turns_ordered ev body n two 0 _ rest (early_ready at 0 n 0 (omega (arith, two)))
+
+  one_level : (w : World) (ev : Ev) (k : Kept) (l : Core-F Core) → AreInOrder (layer_uses w ev trace scope k at l)
+  one_level w ev k (Core-F.Lit v) = tt
+  one_level w ev k (Core-F.Var x) = variable_in_order at scope x.0 h
+  one_level w ev k (Core-F.Source s) = tt
+  one_level w ev k (Core-F.Let es body) =
+      let vs = (parts ev (env_of scope) k 0 es).values in
+      let n = length es in
+      let long = parts_length ev (env_of scope) k 0 es in
+      let ready = all_append scope (given_by_parts at vs) (part_at at n) (part_scope n) (given_by_parts_ready at n vs (omega (arith, long))) in
+      behind_parts k es _ (part_before at n [], ih body (scope ++ given_by_parts at vs) (child k n) (part_at at n) ready)
+  one_level w ev k (Core-F.If test a b) = let v = (ev test (env_of scope) (child k 0)).value in behind_parts k (test ∷ []) _ (switch_ordered k (choose a b v) (behind_test a b v))
+  one_level w ev k (Core-F.Apply f es) =
+      let long = parts_length ev (env_of scope) k 0 es in
+      behind_parts k es _ (call_ordered k (length es) (parts ev (env_of scope) k 0 es).values (omega (arith, long)) (body_for (slice_get w.functions f.0) (length es)))
+  one_level w ev k (Core-F.Operator o es) = parts_ordered (behind_cell (of_operator o) k) 0 es
+  one_level w ev k (Core-F.Handler g es body) =
+      let inside = behind_cell (of_handler g) k in
+      let vs = (parts ev (env_of scope) inside 0 es).values in
+      let b = handler_begin g (form_cell (of_handler g) k) vs in
+      behind_parts inside es _ (handler_ordered body (length es) b (subst (λ n. BeginsWell n b) (parts_length ev (env_of scope) inside 0 es) (begins_well g (form_cell (of_handler g) k) vs)))
+  one_level w ev k (Core-F.Loop l es body) =
+      let vs = (parts ev (env_of scope) k 0 es).values in
+      let r = rounds l (part vs 1) in
+      behind_parts k es _ (loop_ordered (body_with ev (env_of scope) body) body (length es) (part vs 0) r (subst (λ n. TurnsWell n r) (parts_length ev (env_of scope) k 0 es) (rounds_well l vs)))
+  one_level w ev k (Core-F.Feedback init body) =
+      let inside = behind_cell of_feedback k in
+      let more : List Binding = record { value = fed (form_cell of_feedback k) (ev init (env_of scope) (child inside 0)).value; place = part_at at 0 } ∷ [] in
+      let ready = all_append scope more (part_at at 1) (part_scope 1) (part_ready at 0 1 (omega arith), tt) in
+      behind_parts inside (init ∷ []) _ (part_before at 1 [], ih body (scope ++ more) (child inside 1) (part_at at 1) ready)
 
 -- at every number of levels
-pub ordered : (n : ℕ) (w : World) → Ordered (uses_to n w)
+ordered : (n : ℕ) (w : World) → Ordered (uses_to n w)
 unfolding uses_to
 ordered zero w e scope k at h = tt
-ordered (suc n) w e scope k at h = one_level w (eval_to n w) (uses_to n w) (ordered n w) scope k at h (out-Core e)
+ordered (suc n) w e scope k at h = one_level (uses_to n w) (ordered n w) scope at h w (eval_to n w) k (out-Core e)
 
 pub uses_are_in_order : (w : World) (nest : ℕ) (e : Core) (scope : List Binding) (k : Kept) (at : List ℕ) → AreReady scope at → AreInOrder (uses w nest e scope k at)
 uses_are_in_order w nest e scope k at h = ordered (2001 - nest) w e scope k at h
@@ -214,14 +200,15 @@ ReadyFrom i scope = (m : ℕ) → i ≤ m → AreReady scope (m ∷ [])
 item_ready : (i m : ℕ) → i < m → IsReady (i ∷ []) (m ∷ [])
 item_ready i m l = λ inside. inl l
 
-items_ordered : (ev : Ev) (trace : Traces) → Ordered trace → (k : Kept) (i : ℕ) (scope : List Binding) (is : List Item) → ReadyFrom i scope → AreInOrder (item_uses ev trace scope k i is)
-items_ordered ev trace ih k i scope [] h = tt
-items_ordered ev trace ih k i scope (item.Define e ∷ is) h =
-    let more : List Binding = record { value = (ev e (env_of scope) (child k i)).value; place = i ∷ [] } ∷ [] in
-    let ready : ReadyFrom (i + 1) (scope ++ more) = λ m l. all_append scope more (m ∷ []) (h m (omega (arith, l))) (item_ready i m (omega (arith, l)), tt) in
-    in_order _ _ (ih e scope (child k i) (i ∷ []) (h i (omega arith))) (items_ordered ev trace ih k (i + 1) (scope ++ more) is ready)
-items_ordered ev trace ih k i scope (item.Show name e ∷ is) h =
-    in_order _ _ (ih e scope (child k i) (i ∷ []) (h i (omega arith))) (items_ordered ev trace ih k (i + 1) scope is (λ m l. h m (omega (arith, l))))
+module _ (ev : Ev) (trace : Traces) (ih : Ordered trace) (k : Kept) where
+  items_ordered : (i : ℕ) (scope : List Binding) (is : List Item) → ReadyFrom i scope → AreInOrder (item_uses ev trace scope k i is)
+  items_ordered i scope [] h = tt
+  items_ordered i scope (item.Define e ∷ is) h =
+      let more : List Binding = record { value = (ev e (env_of scope) (child k i)).value; place = i ∷ [] } ∷ [] in
+      let ready : ReadyFrom (i + 1) (scope ++ more) = λ m l. all_append scope more (m ∷ []) (h m (omega (arith, l))) (item_ready i m (omega (arith, l)), tt) in
+      in_order _ _ (ih e scope (child k i) (i ∷ []) (h i (omega arith))) (items_ordered (i + 1) (scope ++ more) is ready)
+  items_ordered i scope (item.Show name e ∷ is) h =
+      in_order _ _ (ih e scope (child k i) (i ∷ []) (h i (omega arith))) (items_ordered (i + 1) scope is (λ m l. h m (omega (arith, l))))
 
 pub body_is_in_order : (p : Program) (sources : List Now) (k : Kept) → AreInOrder (body_uses p sources k)
 body_is_in_order p sources k =

@@ -1,7 +1,9 @@
 -- A pure expression's evaluation depends neither on its kept tree nor on sources that it doesn't name.
 use Rattle.std.proofs.Common.{◌≡◌, ℕ, ◌+◌, ◌-◌, ◌==◌, zero, suc, Bool, true, false, ◌&&◌, if◌then◌else◌, List, [], ◌∷◌, ◌++◌, map, length, slice_get, refl, ap, sym, ◌∙◌, subst, Option, Some, None, Result, Ok, Err}
+use Rattle.std.specs.Option.{option_or}
 use Rattle.fr_value.specs.declared.now.Now.{Now}
 use Rattle.fr_value.specs.declared.now.Bad.{Bad}
+use Rattle.fr_value.specs.declared.now.Bad.TheVariants.{Arity}
 use Rattle.fr_core.specs.Shapes.{parts_in, all_true}
 use Rattle.fr_core.specs.Classes.{all_pure, is_prim, pure_itself, judge, FunctionSet, closed_itself, names_only, takes, calls_of, FitsPure, IsPureExpr}
 use Rattle.fr_core.specs.declared.core_form.Core.{Core, out-Core}
@@ -13,11 +15,11 @@ use Rattle.fr_core.specs.declared.kept.Kept.TheVariants as kept
 use Rattle.fr_core.specs.declared.program.Function.{Function}
 use Rattle.fr_core.specs.declared.program.Program.{Program}
 use Rattle.fr_core.proofs.Folds.{judge-opens, names-opens}
-use Rattle.fr_meaning.specs.Words.{Seen, Env, Done, part}
+use Rattle.fr_meaning.specs.Words.{Seen, Env, Done, under, part}
 use Rattle.fr_meaning.specs.Primitives.{applied}
 use Rattle.fr_meaning.specs.Cells.{Cell, child}
-use Rattle.fr_meaning.specs.States.{Line, gives, of_operator, no_call, state_now}
-use Rattle.fr_meaning.specs.Evaluation.{world_of, Ev, Parts, parts, leaf, source_seen, Turns, layer, after_parts, Choice, choose, choice_kept, switch_done, call_done, body_for, turns, turns_done, all_turns, rounds, body_with, line_done, behind_cell, eval_to}
+use Rattle.fr_meaning.specs.States.{gives, of_operator, no_call, state_now}
+use Rattle.fr_meaning.specs.Evaluation.{world_of, Ev, Parts, parts, join_part, ended, leaf, source_seen, layer, parts_only, after_parts, Choice, choose, choice_kept, choice_done, test_refused, switch_done, call_done, body_for, turned, turns, turns_done, all_turns, rounds, body_with, loop_done, line_done, behind_cell, eval_to}
 use Rattle.fr_meaning.specs.Agreement.{Agree, IsSteady, IsSteadyOver}
 use Rattle.fr_meaning.specs.Dependence.{joined, own_source, sources_of, AgreeAt}
 use Rattle.fr_meaning.proofs.Begins.{choice_cases}
@@ -51,149 +53,130 @@ names_none s = by_parts (NamesNone s) (λ e h closed.
     let t = both_true (closed_itself s l) (all_true (map (names_only s) (parts_in l))) (sym (names-opens s e) ∙ closed) in
     sources-opens e ∙ rw (own_none s l t.0, parts_none s (parts_in l) h t.1) refl)
 
--- an expression is pure where these calls are, and these sources agree at what it names
-record Firm (calls : ℕ → ℕ → Bool) (sources other : List Now) (e : Core) : Type 0 where
-  pure : (judge calls e).pure ≡ true
-  named : AgreeAt (sources_of e) sources other
+-- what is told of an evaluation and of parts beside what they keep
+abbrev bare : Done → Done
+bare d = record { value = d.value; kept = kept.Nothing; cost = d.cost; first = d.first }
 
-each_firm : (calls : ℕ → ℕ → Bool) (sources other : List Now) (es : List Core) → all_pure (map (judge calls) es) ≡ true → AgreeAt (joined (map sources_of es)) sources other → Each (Firm calls sources other) es
-each_firm calls sources other [] h g = tt
-each_firm calls sources other (e ∷ es) h g =
-    let t = both_true (judge calls e).pure (all_pure (map (judge calls) es)) h in
-    let u = both_agree (sources_of e) (joined (map sources_of es)) sources other g in
-    (record { pure = t.0; named = u.0 }, each_firm calls sources other es t.1 u.1)
+abbrev bare_parts : Parts → Parts
+bare_parts ps = record { values = ps.values; kepts = []; cost = ps.cost; first = ps.first }
 
--- the body of a pure function is firm: it names no source
+operator_agree : (o : Operator) → is_prim o ≡ true → (c c' : Option Cell) (ps ps' : Parts) → bare_parts ps ≡ bare_parts ps'
+    → bare (line_done ps (state_now (of_operator o) c ps.values no_call)) ≡ bare (line_done ps' (state_now (of_operator o) c' ps'.values no_call))
+operator_agree (operator.Prim p) h c c' ps ps' a = ap (λ ps. bare (line_done ps (gives (applied p ps.values) None))) a
+operator_agree o h c c' ps ps' a = impossible h
+
+module _ (body body' : List Seen → Done) (h : (vs : List Seen) → bare (body vs) ≡ bare (body' vs)) where
+  turns_agree : (t : ℕ) (acc : Seen) (rest : List (List Seen)) → turns body t acc rest ≡ turns body' t acc rest
+  turns_agree t acc [] = refl
+  turns_agree t acc (vs ∷ rest) = ap (λ (d : Done). turned t d (turns body (t + 1) d.value rest)) (h (acc ∷ vs)) ∙ ap (turned t (body' (acc ∷ vs))) (turns_agree (t + 1) (body' (acc ∷ vs)).value rest)
+
+  all_agree : (acc : Seen) (r : Result (List (List Seen)) Bad) → all_turns body acc r ≡ all_turns body' acc r
+  all_agree acc (Err b) = refl
+  all_agree acc (Ok rest) = turns_agree 0 acc rest
+
+-- the body of a function, where there is one
 abbrev OfBody : (Core → Type 0) → Option Function → Type 0
 OfBody P None = Unit {0}
 OfBody P (Some f) = P f.body
 
-firm_body : (p : Program) (s : FunctionSet) → FitsPure p s → (sources other : List Now) (f : ℕ) → s f ≡ true → OfBody (Firm (calls_of p s) sources other) (slice_get p.functions f)
-firm_body p s fits sources other f member =
-    let over = fits.fits f member in
-    let set = over.closed.set in
-    let closed = over.closed.fits.fits f over.closed.member in
-    let names : names_only set over.function.body ≡ true = subst (OfBody (λ e. names_only set e ≡ true)) (sym closed.stands ∙ over.stands) closed.body in
-    let none = names_none set over.function.body names in
-    subst (OfBody (Firm (calls_of p s) sources other)) (sym over.stands) (record { pure = over.body; named = subst (λ ns. AgreeAt ns sources other) (sym none) tt })
+-- what a switch chooses, where it chooses
+abbrev OfChoice : (Core → Type 0) → Result Choice Bad → Type 0
+OfChoice P (Err b) = Unit {0}
+OfChoice P (Ok c) = P c.expr
 
--- parts that answer the same, whatever they keep
-record AgreeParts (a b : Parts) : Type 0 where
-  values : a.values ≡ b.values
-  cost : a.cost ≡ b.cost
-  first : a.first ≡ b.first
+module _ (p : Program) (s : FunctionSet) (fits : FitsPure p s) (sources other : List Now) where
+  -- an expression is pure where calls of members are, and the sources agree at what it names
+  record Firm (e : Core) : Type 0 where
+    pure : (judge (calls_of p s) e).pure ≡ true
+    named : AgreeAt (sources_of e) sources other
 
--- two evaluations of this expression answer the same, over any two kept trees
-abbrev Steady : Ev → Ev → Core → Type 0
-Steady ev ev' e = (env : Env) (k k' : Kept) → Agree (ev e env k) (ev' e env k')
+  each_firm : (es : List Core) → all_pure (map (judge (calls_of p s)) es) ≡ true → AgreeAt (joined (map sources_of es)) sources other → Each Firm es
+  each_firm [] h g = tt
+  each_firm (e ∷ es) h g =
+      let t = both_true (judge (calls_of p s) e).pure (all_pure (map (judge (calls_of p s)) es)) h in
+      let u = both_agree (sources_of e) (joined (map sources_of es)) sources other g in
+      (record { pure = t.0; named = u.0 }, each_firm es t.1 u.1)
 
-parts_agree : (P : Core → Type 0) (ev ev' : Ev) → ((e : Core) → P e → Steady ev ev' e) → (env : Env) (k k' : Kept) (i : ℕ) (es : List Core) → Each P es → AgreeParts (parts ev env k i es) (parts ev' env k' i es)
-parts_agree P ev ev' ih env k k' i [] h = record { values = refl; cost = refl; first = refl }
-parts_agree P ev ev' ih env k k' i (e ∷ es) h =
-    let a = ih e h.0 env (child k i) (child k' i) in
-    let b = parts_agree P ev ev' ih env k k' (i + 1) es h.1 in
-    record { values = rw (a.value, b.values) refl; cost = rw (a.cost, b.cost) refl; first = rw (a.first, b.first) refl }
+  -- a pure function's body names no source
+  firm_body : (f : ℕ) → s f ≡ true → OfBody Firm (slice_get p.functions f)
+  firm_body f member =
+      let over = fits.fits f member in
+      let closed = over.closed.fits.fits f over.closed.member in
+      let names = subst (OfBody (λ e. names_only over.closed.set e ≡ true)) (sym closed.stands ∙ over.stands) closed.body in
+      let none = names_none over.closed.set over.function.body names in
+      subst (OfBody Firm) (sym over.stands) (record { pure = over.body; named = subst (λ ns. AgreeAt ns sources other) (sym none) tt })
 
-leaf_agree : (v v' : Seen) → v ≡ v' → Agree (leaf v) (leaf v')
-leaf_agree v v' h = record { value = h; cost = refl; first = rw h refl }
+  -- two evaluations of an expression tell the same, over any two kept trees
+  abbrev Steady : Ev → Ev → Core → Type 0
+  Steady ev ev' e = (env : Env) (k k' : Kept) → bare (ev e env k) ≡ bare (ev' e env k')
 
-after_agree : (n : ℕ) (ps ps' : Parts) (d d' : Done) → AgreeParts ps ps' → Agree d d' → Agree (after_parts n ps d) (after_parts n ps' d')
-after_agree n ps ps' d d' a b = record { value = b.value; cost = rw (a.cost, b.cost) refl; first = rw (a.first, b.first, b.value) refl }
+  module _ (ev ev' : Ev) (ih : (e : Core) → Firm e → Steady ev ev' e) (env : Env) where
+    parts_agree : (k k' : Kept) (i : ℕ) (es : List Core) → Each Firm es → bare_parts (parts ev env k i es) ≡ bare_parts (parts ev' env k' i es)
+    parts_agree k k' i [] h = refl
+    parts_agree k k' i (e ∷ es) h =
+        ap (λ d. bare_parts (join_part i d (parts ev env k (i + 1) es))) (ih e h.0 env (child k i) (child k' i))
+        ∙ ap (λ ps. bare_parts (join_part i (ev' e env (child k' i)) ps)) (parts_agree k k' (i + 1) es h.1)
 
--- what a switch chooses is steady
-abbrev SteadyChoice : Ev → Ev → Result Choice Bad → Type 0
-SteadyChoice ev ev' (Err b) = Unit {0}
-SteadyChoice ev ev' (Ok c) = Steady ev ev' c.expr
+    switch_agree : (k k' : Kept) (t t' : Done) → bare t ≡ bare t' → (r : Result Choice Bad) → OfChoice (Steady ev ev') r → bare (switch_done ev env k t r) ≡ bare (switch_done ev' env k' t' r)
+    switch_agree k k' t t' a (Err bad) h = ap (λ t. bare (test_refused t bad)) a
+    switch_agree k k' t t' a (Ok c) h = ap (λ d. bare (choice_done t c d)) (h env (choice_kept k c) (choice_kept k' c)) ∙ ap (λ t. bare (choice_done t c (ev' c.expr env (choice_kept k' c)))) a
 
-switch_agree : (ev ev' : Ev) (env : Env) (k k' : Kept) (t t' : Done) → Agree t t' → (r : Result Choice Bad) → SteadyChoice ev ev' r → Agree (switch_done ev env k t r) (switch_done ev' env k' t' r)
-switch_agree ev ev' env k k' t t' a (Err bad) h = record { value = refl; cost = a.cost; first = rw a.first refl }
-switch_agree ev ev' env k k' t t' a (Ok c) h =
-    let d = h env (choice_kept k c) (choice_kept k' c) in
-    record { value = d.value; cost = rw (a.cost, d.cost) refl; first = rw (a.first, d.first, d.value) refl }
+    call_agree : (k k' : Kept) (n : ℕ) (ps ps' : Parts) → bare_parts ps ≡ bare_parts ps' → (o : Option Function) → OfBody Firm o → bare (call_done ev k n ps (body_for o n)) ≡ bare (call_done ev' k' n ps' (body_for o n))
+    call_agree k k' n ps ps' a None h = ap (λ ps. bare (parts_only (Err Arity) ps)) a
+    call_agree k k' n ps ps' a (Some f) h = by_arity (f.params == n)
+      where
+        by_arity : (t : Bool) → bare (call_done ev k n ps (if t then Some f.body else None)) ≡ bare (call_done ev' k' n ps' (if t then Some f.body else None))
+        by_arity false = ap (λ ps. bare (parts_only (Err Arity) ps)) a
+        by_arity true =
+            ap (λ (d : Done). bare (ended d.value kept.Nothing (ps.cost + (d.cost + 1)) (option_or ps.first (under n d.first)))) (ih f.body h ps.values (child k n) (child k' n))
+            ∙ ap (λ ps. bare (call_done ev' k' n ps (Some f.body))) a
 
--- a call of a function whose body is steady
-call_agree : (ev ev' : Ev) (k k' : Kept) (n : ℕ) (ps ps' : Parts) → AgreeParts ps ps' → (o : Option Function) → OfBody (Steady ev ev') o → Agree (call_done ev k n ps (body_for o n)) (call_done ev' k' n ps' (body_for o n))
-call_agree ev ev' k k' n ps ps' a None h = record { value = refl; cost = a.cost; first = rw a.first refl }
-call_agree ev ev' k k' n ps ps' a (Some f) h = by_arity (f.params == n)
-  where
-    by_arity : (t : Bool) → Agree (call_done ev k n ps (if t then Some f.body else None)) (call_done ev' k' n ps' (if t then Some f.body else None))
-    by_arity false = record { value = refl; cost = a.cost; first = rw a.first refl }
-    by_arity true =
-        let d : Agree (ev f.body ps.values (child k n)) (ev' f.body ps'.values (child k' n)) = rw (← a.values) (h ps.values (child k n) (child k' n)) in
-        record { value = d.value; cost = rw (a.cost, d.cost) refl; first = rw (a.first, d.first, d.value) refl }
+    one_level : (k k' : Kept) (l : Core-F Core) → pure_itself (calls_of p s) l ≡ true → AgreeAt (own_source l) sources other → Each Firm (parts_in l)
+        → bare (layer (world_of p sources) ev env k l) ≡ bare (layer (world_of p other) ev' env k' l)
+    one_level k k' (Core-F.Lit v) pure named h = refl
+    one_level k k' (Core-F.Var x) pure named h = refl
+    one_level k k' (Core-F.Source x) pure named h = ap (λ o. leaf (source_seen o)) named.0
+    one_level k k' (Core-F.Let es body) pure named h =
+        let n = length es in
+        let t = each_body Firm es n body h in
+        let ps = parts ev env k 0 es in
+        ap (λ d. bare (after_parts n ps d)) (ih body t.1 (env ++ ps.values) (child k n) (child k' n))
+        ∙ ap (λ ps. bare (after_parts n ps (ev' body (env ++ ps.values) (child k' n)))) (parts_agree k k' 0 es t.0)
+    one_level k k' (Core-F.If test a b) pure named h =
+        let t = ih test h.0 env (child k 0) (child k' 0) in
+        let v = (ev test env (child k 0)).value in
+        rw (← ap (λ d. d.value) t) (switch_agree k k' _ _ t (choose a b v) (choice_cases (OfChoice (Steady ev ev')) a b (λ bad. tt) (ih a h.1.0) (ih b h.1.1.0) v))
+    one_level k k' (Core-F.Apply f es) pure named h =
+        let firm = firm_body f.0 (both_true (s f.0) (takes (slice_get p.functions f.0) (length es)) pure).0 in
+        call_agree k k' (length es) _ (parts ev' env k' 0 es) (parts_agree k k' 0 es (each_outer Firm es h)) (slice_get p.functions f.0) firm
+    one_level k k' (Core-F.Operator o es) pure named h =
+        let inside = behind_cell (of_operator o) k in
+        let inside' = behind_cell (of_operator o) k' in
+        operator_agree o pure _ _ (parts ev env inside 0 es) (parts ev' env inside' 0 es) (parts_agree inside inside' 0 es (each_outer Firm es h))
+    one_level k k' (Core-F.Handler g es body) pure named h = impossible pure
+    one_level k k' (Core-F.Loop g es body) pure named h =
+        let n = length es in
+        let t = each_body Firm es _ body h in
+        let vs = (parts ev env k 0 es).values in
+        let turns = all_agree (body_with ev env body) (body_with ev' env body) (λ vs. ih body t.1 (env ++ vs) kept.Nothing kept.Nothing) (part vs 0) (rounds g (part vs 1)) in
+        ap (λ t. bare (turns_done n (parts ev env k 0 es) t)) turns ∙ ap (λ ps. bare (loop_done ev' env g n ps body)) (parts_agree k k' 0 es t.0)
+    one_level k k' (Core-F.Feedback init body) pure named h = impossible pure
 
-line_agree : (line : List Seen → Line) (ps ps' : Parts) → AgreeParts ps ps' → Agree (line_done ps (line ps.values)) (line_done ps' (line ps'.values))
-line_agree line ps ps' a =
-    let l = ap line a.values in
-    record { value = ap (λ l. l.value) l; cost = rw (a.cost, l) refl; first = rw (a.first, l) refl }
-
-operator_agree : (o : Operator) → is_prim o ≡ true → (c c' : Option Cell) (ps ps' : Parts) → AgreeParts ps ps'
-    → Agree (line_done ps (state_now (of_operator o) c ps.values no_call)) (line_done ps' (state_now (of_operator o) c' ps'.values no_call))
-operator_agree (operator.Prim p) h c c' ps ps' a = line_agree (λ vs. gives (applied p vs) None) ps ps' a
-operator_agree o h c c' ps ps' a = impossible h
-
--- the turns with steady bodies
-turns_agree : (body body' : List Seen → Done) → ((vs : List Seen) → Agree (body vs) (body' vs)) → (t : ℕ) (acc : Seen) (rest : List (List Seen)) → turns body t acc rest ≡ turns body' t acc rest
-turns_agree body body' h t acc [] = refl
-turns_agree body body' h t acc (vs ∷ rest) =
-    let d = h (acc ∷ vs) in
-    rw (d.value, d.cost, d.first, turns_agree body body' h (t + 1) (body' (acc ∷ vs)).value rest) refl
-
-all_agree : (body body' : List Seen → Done) → ((vs : List Seen) → Agree (body vs) (body' vs)) → (acc : Seen) (r : Result (List (List Seen)) Bad) → all_turns body acc r ≡ all_turns body' acc r
-all_agree body body' h acc (Err b) = refl
-all_agree body body' h acc (Ok rest) = turns_agree body body' h 0 acc rest
-
-loop_agree : (n : ℕ) (ps ps' : Parts) → AgreeParts ps ps' → (t t' : Turns) → t ≡ t' → Agree (turns_done n ps t) (turns_done n ps' t')
-loop_agree n ps ps' a t t' h = record { value = ap (λ t. t.value) h; cost = rw (a.cost, h) refl; first = rw (a.first, h) refl }
-
-one_level : (p : Program) (s : FunctionSet) → FitsPure p s → (sources other : List Now) (ev ev' : Ev) → ((e : Core) → Firm (calls_of p s) sources other e → Steady ev ev' e) → (env : Env) (k k' : Kept) (l : Core-F Core)
-    → pure_itself (calls_of p s) l ≡ true → AgreeAt (own_source l) sources other → Each (Firm (calls_of p s) sources other) (parts_in l)
-    → Agree (layer (world_of p sources) ev env k l) (layer (world_of p other) ev' env k' l)
-one_level p s fits sources other ev ev' ih env k k' (Core-F.Lit v) pure named h = leaf_agree _ _ refl
-one_level p s fits sources other ev ev' ih env k k' (Core-F.Var x) pure named h = leaf_agree _ _ refl
-one_level p s fits sources other ev ev' ih env k k' (Core-F.Source x) pure named h = leaf_agree _ _ (ap source_seen named.0)
-one_level p s fits sources other ev ev' ih env k k' (Core-F.Let es body) pure named h =
-    let n = length es in
-    let t = each_body (Firm (calls_of p s) sources other) es n body h in
-    let a = parts_agree _ ev ev' ih env k k' 0 es t.0 in
-    let d : Agree (ev body (env ++ (parts ev env k 0 es).values) (child k n)) (ev' body (env ++ (parts ev' env k' 0 es).values) (child k' n))
-    = rw (← a.values) (ih body t.1 (env ++ (parts ev env k 0 es).values) (child k n) (child k' n)) in
-    after_agree n _ _ _ _ a d
-one_level p s fits sources other ev ev' ih env k k' (Core-F.If test a b) pure named h =
-    let t = ih test h.0 env (child k 0) (child k' 0) in
-    let v = (ev test env (child k 0)).value in
-    rw (← t.value) (switch_agree ev ev' env k k' _ _ t (choose a b v) (choice_cases (SteadyChoice ev ev') a b (λ bad. tt) (ih a h.1.0) (ih b h.1.1.0) v))
-one_level p s fits sources other ev ev' ih env k k' (Core-F.Apply f es) pure named h =
-    let a = parts_agree _ ev ev' ih env k k' 0 es (each_outer (Firm (calls_of p s) sources other) es h) in
-    let firm = firm_body p s fits sources other f.0 (both_true (s f.0) (takes (slice_get p.functions f.0) (length es)) pure).0 in
-    call_agree ev ev' k k' (length es) _ _ a (slice_get p.functions f.0) (steady_body (slice_get p.functions f.0) firm)
-  where
-    steady_body : (o : Option Function) → OfBody (Firm (calls_of p s) sources other) o → OfBody (Steady ev ev') o
-    steady_body None h = tt
-    steady_body (Some f) h = ih f.body h
-one_level p s fits sources other ev ev' ih env k k' (Core-F.Operator o es) pure named h =
-    operator_agree o pure _ _ _ _ (parts_agree _ ev ev' ih env (behind_cell (of_operator o) k) (behind_cell (of_operator o) k') 0 es (each_outer (Firm (calls_of p s) sources other) es h))
-one_level p s fits sources other ev ev' ih env k k' (Core-F.Handler g es body) pure named h = impossible pure
-one_level p s fits sources other ev ev' ih env k k' (Core-F.Loop g es body) pure named h =
-    let t = each_body (Firm (calls_of p s) sources other) es _ body h in
-    let a = parts_agree _ ev ev' ih env k k' 0 es t.0 in
-    let turns = all_agree (body_with ev env body) (body_with ev' env body) (λ vs. ih body t.1 (env ++ vs) kept.Nothing kept.Nothing) in
-    loop_agree (length es) _ _ a _ _ (rw a.values (turns (part (parts ev' env k' 0 es).values 0) (rounds g (part (parts ev' env k' 0 es).values 1))))
-one_level p s fits sources other ev ev' ih env k k' (Core-F.Feedback init body) pure named h = impossible pure
-
--- at every number of levels
-steady : (p : Program) (s : FunctionSet) → FitsPure p s → (sources other : List Now) (n : ℕ) (e : Core) → Firm (calls_of p s) sources other e → Steady (eval_to n (world_of p sources)) (eval_to n (world_of p other)) e
-unfolding eval_to
-steady p s fits sources other zero e h env k k' = record { value = refl; cost = refl; first = refl }
-steady p s fits sources other (suc n) e h env k k' =
-    let calls = calls_of p s in
-    let l = out-Core e in
-    let t = both_true (pure_itself calls l) (all_pure (map (judge calls) (parts_in l))) (ap (λ j. j.pure) (sym (judge-opens calls e)) ∙ h.pure) in
-    let u = both_agree (own_source l) (joined (map sources_of (parts_in l))) sources other (subst (λ ns. AgreeAt ns sources other) (sources-opens e) h.named) in
-    one_level p s fits sources other _ _ (steady p s fits sources other n) env k k' l t.0 u.0 (each_firm calls sources other (parts_in l) t.1 u.1)
+  -- at every number of levels
+  steady : (n : ℕ) (e : Core) → Firm e → Steady (eval_to n (world_of p sources)) (eval_to n (world_of p other)) e
+  unfolding eval_to
+  steady zero e h env k k' = refl
+  steady (suc n) e h env k k' =
+      let calls = calls_of p s in
+      let l = out-Core e in
+      let t = both_true (pure_itself calls l) (all_pure (map (judge calls) (parts_in l))) (ap (λ j. j.pure) (sym (judge-opens calls e)) ∙ h.pure) in
+      let u = both_agree (own_source l) (joined (map sources_of (parts_in l))) sources other (subst (λ ns. AgreeAt ns sources other) (sources-opens e) h.named) in
+      one_level (eval_to n (world_of p sources)) (eval_to n (world_of p other)) (steady n) env k k' l t.0 u.0 (each_firm (parts_in l) t.1 u.1)
 
 pub named_sources_decide : (p : Program) (sources other : List Now) (e : Core) → IsPureExpr p e → AgreeAt (sources_of e) sources other → IsSteadyOver (world_of p sources) (world_of p other) e
-named_sources_decide p sources other e h named nest env k k' = steady p h.set h.fits sources other (2001 - nest) e (record { pure = h.pure; named = named }) env k k'
+named_sources_decide p sources other e h named nest env k k' =
+    let same = steady p h.set h.fits sources other (2001 - nest) e (record { pure = h.pure; named = named }) env k k' in
+    record { value = ap (λ d. d.value) same; cost = ap (λ d. d.cost) same; first = ap (λ d. d.first) same }
 
 pub pure_is_steady : (p : Program) (sources : List Now) (e : Core) → IsPureExpr p e → IsSteady (world_of p sources) e
 pure_is_steady p sources e h = named_sources_decide p sources sources e h (always_agree (sources_of e) sources)

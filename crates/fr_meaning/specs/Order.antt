@@ -57,11 +57,15 @@ abbrev pub IsUsed : List ℕ → List Use → Type 0
 IsUsed place [] = ⊥
 IsUsed place (u ∷ us) = (u.value_at ≡ place) ⊎ IsUsed place us
 
+-- two scopes have the same places, and the same value at each place of which this holds
+abbrev pub AgreeWhere : (List ℕ → Type 0) → List Binding → List Binding → Type 0
+AgreeWhere U [] [] = Unit {0}
+AgreeWhere U (v ∷ scope) (o ∷ other) = (v.place ≡ o.place) × (U v.place → v.value ≡ o.value) × AgreeWhere U scope other
+AgreeWhere U scope other = ⊥
+
 -- two scopes have the same places, and the same value at each place that is used
 abbrev pub AgreeWhereUsed : List Use → List Binding → List Binding → Type 0
-AgreeWhereUsed us [] [] = Unit {0}
-AgreeWhereUsed us (v ∷ scope) (o ∷ other) = (v.place ≡ o.place) × (IsUsed v.place us → v.value ≡ o.value) × AgreeWhereUsed us scope other
-AgreeWhereUsed us scope other = ⊥
+AgreeWhereUsed us scope other = AgreeWhere (λ p. IsUsed p us) scope other
 
 -- the place of part number i
 abbrev pub part_at : List ℕ → ℕ → List ℕ
