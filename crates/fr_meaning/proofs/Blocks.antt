@@ -5,6 +5,8 @@ use Rattle.std.proofs.lemmas.List.{map-append, length-map, get_or-map}
 use Rattle.std.proofs.lemmas.List.Elements.{All-nil, All-head, All-tail, All-append, All-map, All-weaker, All-contains, Contains-append_cases}
 use Rattle.fr_value.specs.Data.{total}
 use Rattle.fr_core.specs.WellFormed.{AreDistinct}
+use Rattle.fr_core.proofs.Parts.{map-map}
+use Rattle.fr_core.proofs.PartLists.{total-append}
 use Rattle.fr_meaning.specs.Places.{Place, paths, costs, IsSumOver, itself, within}
 
 -- a way that begins with a part of these numbers
@@ -33,17 +35,8 @@ distinct_append lo mid hi (x ∷ xs) ys a b h k = (
   distinct_append lo mid hi xs ys (All-tail (Begins lo mid) x xs a) b h.1 k,
 )
 
-total_append : (xs ys : List Place) → total (costs (xs ++ ys)) ≡ total (costs xs) + total (costs ys)
-total_append [] ys = omega arith
-total_append (x ∷ xs) ys = rw (total_append xs ys) (omega arith)
-
-costs_within : (i : ℕ) (ps : List Place) → costs (within i ps) ≡ costs ps
-costs_within i [] = refl
-costs_within i (p ∷ ps) = ap (λ cs. p.cost ∷ cs) (costs_within i ps)
-
 paths_within : (i : ℕ) (ps : List Place) → paths (within i ps) ≡ map (λ x. i ∷ x) (paths ps)
-paths_within i [] = refl
-paths_within i (p ∷ ps) = ap (λ xs. (i ∷ p.path) ∷ xs) (paths_within i ps)
+paths_within i ps = map-map (λ (p : Place). p.path) (λ (p : Place). record { path = i ∷ p.path; cost = p.cost }) ps ∙ sym (map-map (λ x. i ∷ x) (λ (p : Place). p.path) ps)
 
 rest_of : List ℕ → List ℕ
 rest_of [] = []
@@ -68,7 +61,7 @@ none lo hi = record { sum = refl; begin = All-nil (Begins lo hi); distinct = tt 
 -- the places of one part
 pub block : (i n : ℕ) (ps : List Place) → IsSumOver n ps → Blocks i (i + 1) n (within i ps)
 block i n ps h = record {
-  sum = ap total (costs_within i ps) ∙ h.sum;
+  sum = ap total (map-map (λ (p : Place). p.cost) (λ (p : Place). record { path = i ∷ p.path; cost = p.cost }) ps) ∙ h.sum;
   begin = subst (All (Begins i (i + 1))) (sym (paths_within i ps)) (All-map (Begins i (i + 1)) (λ x. i ∷ x) (paths ps) (λ k d lt. (omega arith, omega arith)));
   distinct = subst AreDistinct (sym (paths_within i ps)) (distinct_under i (paths ps) h.distinct);
 }
@@ -80,7 +73,7 @@ grown lo hi hi' n ps l h = record { sum = h.sum; begin = All-weaker (Begins lo h
 -- parts before others
 pub join : (lo mid hi m n : ℕ) (ps qs : List Place) → lo ≤ mid → mid ≤ hi → Blocks lo mid m ps → Blocks mid hi n qs → Blocks lo hi (m + n) (ps ++ qs)
 join lo mid hi m n ps qs a b h k = record {
-  sum = total_append ps qs ∙ rw (h.sum, k.sum) refl;
+  sum = ap total (map-append (λ p. p.cost) ps qs) ∙ total-append (costs ps) (costs qs) ∙ rw (h.sum, k.sum) refl;
   begin = subst (All (Begins lo hi)) (sym (map-append (λ p. p.path) ps qs))
       (All-append (Begins lo hi) (paths ps) (paths qs) (grown lo mid hi m ps b h).begin (All-weaker (Begins mid hi) (Begins lo hi) (wider mid hi lo hi a (omega arith)) (paths qs) k.begin));
   distinct = subst AreDistinct (sym (map-append (λ p. p.path) ps qs)) (distinct_append lo mid hi (paths ps) (paths qs) h.begin k.begin h.distinct k.distinct);

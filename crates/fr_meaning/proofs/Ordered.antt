@@ -119,6 +119,10 @@ module _ (trace : Traces) (ih : Ordered trace) (scope : List Binding) (at : List
   behind_parts : (k : Kept) (es : List Core) (us : List Use) → AreInOrder us → AreInOrder (part_uses trace scope k at 0 es ++ us)
   behind_parts k es us g = in_order (part_uses trace scope k at 0 es) us (parts_ordered k 0 es) g
 
+  -- a body with further variables, as part number n
+  body_ordered : (n : ℕ) (more : List Binding) (k : Kept) (body : Core) → AreReady more (part_at at n) → AreInOrder (uses_part at n ∷ trace body (scope ++ more) k (part_at at n))
+  body_ordered n more k body g = (part_before at n [], ih body (scope ++ more) k (part_at at n) (all_append scope more (part_at at n) (part_scope n) g))
+
   switch_ordered : (k : Kept) (r : Result Choice Bad) → IsBehindTest r → AreInOrder (switch_uses trace scope k at r)
   switch_ordered k (Err bad) l = tt
   switch_ordered k (Ok c) l =
@@ -130,9 +134,7 @@ module _ (trace : Traces) (ih : Ordered trace) (scope : List Binding) (at : List
 
   handler_ordered : (body : Core) (n : ℕ) (b : Begun) → BeginsWell n b → AreInOrder (handler_uses (body_uses_with trace scope body) at n b)
   handler_ordered body n (known l) few = tt
-  handler_ordered body n (asks args) few =
-      let ready = all_append scope (given_by_parts at args) (part_at at n) (part_scope n) (given_by_parts_ready at n args few) in
-      in_order _ _ (waits_ordered at n 0 n (omega arith)) (part_before at n [], ih body (scope ++ given_by_parts at args) kept.Nothing (part_at at n) ready)
+  handler_ordered body n (asks args) few = in_order _ _ (waits_ordered at n 0 n (omega arith)) (body_ordered n (given_by_parts at args) kept.Nothing body (given_by_parts_ready at n args few))
 
   -- the turns are in order where there are two parts
   turns_ordered : (ev : List Seen → Done) (body : Core) (n : ℕ) → 2 ≤ n → (t : ℕ) (acc : Binding) (rest : List (List Seen)) → IsReady acc.place (turn_at at n t)
@@ -161,8 +163,7 @@ module _ (trace : Traces) (ih : Ordered trace) (scope : List Binding) (at : List
       let vs = (parts ev (env_of scope) k 0 es).values in
       let n = length es in
       let long = parts_length ev (env_of scope) k 0 es in
-      let ready = all_append scope (given_by_parts at vs) (part_at at n) (part_scope n) (given_by_parts_ready at n vs (omega (arith, long))) in
-      behind_parts k es _ (part_before at n [], ih body (scope ++ given_by_parts at vs) (child k n) (part_at at n) ready)
+      behind_parts k es _ (body_ordered n (given_by_parts at vs) (child k n) body (given_by_parts_ready at n vs (omega (arith, long))))
   one_level w ev k (Core-F.If test a b) = let v = (ev test (env_of scope) (child k 0)).value in behind_parts k (test ∷ []) _ (switch_ordered k (choose a b v) (behind_test a b v))
   one_level w ev k (Core-F.Apply f es) =
       let long = parts_length ev (env_of scope) k 0 es in
@@ -180,8 +181,7 @@ module _ (trace : Traces) (ih : Ordered trace) (scope : List Binding) (at : List
   one_level w ev k (Core-F.Feedback init body) =
       let inside = behind_cell of_feedback k in
       let more : List Binding = record { value = fed (form_cell of_feedback k) (ev init (env_of scope) (child inside 0)).value; place = part_at at 0 } ∷ [] in
-      let ready = all_append scope more (part_at at 1) (part_scope 1) (part_ready at 0 1 (omega arith), tt) in
-      behind_parts inside (init ∷ []) _ (part_before at 1 [], ih body (scope ++ more) (child inside 1) (part_at at 1) ready)
+      behind_parts inside (init ∷ []) _ (body_ordered 1 more (child inside 1) body (part_ready at 0 1 (omega arith), tt))
 
 -- at every number of levels
 ordered : (n : ℕ) (w : World) → Ordered (uses_to n w)
@@ -196,16 +196,12 @@ uses_are_in_order w nest e scope k at h = ordered (2001 - nest) w e scope k at h
 abbrev ReadyFrom : ℕ → List Binding → Type 0
 ReadyFrom i scope = (m : ℕ) → i ≤ m → AreReady scope (m ∷ [])
 
--- an item's place is ready for all items behind it
-item_ready : (i m : ℕ) → i < m → IsReady (i ∷ []) (m ∷ [])
-item_ready i m l = λ inside. inl l
-
 module _ (ev : Ev) (trace : Traces) (ih : Ordered trace) (k : Kept) where
   items_ordered : (i : ℕ) (scope : List Binding) (is : List Item) → ReadyFrom i scope → AreInOrder (item_uses ev trace scope k i is)
   items_ordered i scope [] h = tt
   items_ordered i scope (item.Define e ∷ is) h =
       let more : List Binding = record { value = (ev e (env_of scope) (child k i)).value; place = i ∷ [] } ∷ [] in
-      let ready : ReadyFrom (i + 1) (scope ++ more) = λ m l. all_append scope more (m ∷ []) (h m (omega (arith, l))) (item_ready i m (omega (arith, l)), tt) in
+      let ready : ReadyFrom (i + 1) (scope ++ more) = λ m l. all_append scope more (m ∷ []) (h m (omega (arith, l))) (λ inside. inl (omega (arith, l)), tt) in
       in_order _ _ (ih e scope (child k i) (i ∷ []) (h i (omega arith))) (items_ordered (i + 1) (scope ++ more) is ready)
   items_ordered i scope (item.Show name e ∷ is) h =
       in_order _ _ (ih e scope (child k i) (i ∷ []) (h i (omega arith))) (items_ordered (i + 1) scope is (λ m l. h m (omega (arith, l))))

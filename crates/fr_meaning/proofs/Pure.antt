@@ -1,6 +1,7 @@
 -- A pure expression's evaluation depends neither on its kept tree nor on sources that it doesn't name.
 use Rattle.std.proofs.Common.{◌≡◌, ℕ, ◌+◌, ◌-◌, ◌==◌, zero, suc, Bool, true, false, ◌&&◌, if◌then◌else◌, List, [], ◌∷◌, ◌++◌, map, length, slice_get, refl, ap, sym, ◌∙◌, subst, Option, Some, None, Result, Ok, Err}
 use Rattle.std.specs.Option.{option_or}
+use Rattle.std.proofs.lemmas.Bool.{false≢true}
 use Rattle.fr_value.specs.declared.now.Now.{Now}
 use Rattle.fr_value.specs.declared.now.Bad.{Bad}
 use Rattle.fr_value.specs.declared.now.Bad.TheVariants.{Arity}
@@ -31,16 +32,12 @@ both_true true true h = (refl, refl)
 both_true true false h = cc
 both_true false b h = cc
 
--- what isn't so
-impossible : {X : Type 0} → false ≡ true → X
-impossible h = cc
-
 -- an expression that names no source is none, and its parts name none
 abbrev NamesNone : FunctionSet → Core → Type 0
 NamesNone s e = names_only s e ≡ true → sources_of e ≡ []
 
 own_none : (s : FunctionSet) (l : Core-F Core) → closed_itself s l ≡ true → own_source l ≡ []
-own_none s (Core-F.Source x) h = impossible h
+own_none s (Core-F.Source x) h = absurd (false≢true h)
 own_none s _ h = refl
 
 parts_none : (s : FunctionSet) (es : List Core) → Each (NamesNone s) es → all_true (map (names_only s) es) ≡ true → joined (map sources_of es) ≡ []
@@ -63,7 +60,7 @@ bare_parts ps = record { values = ps.values; kepts = []; cost = ps.cost; first =
 operator_agree : (o : Operator) → is_prim o ≡ true → (c c' : Option Cell) (ps ps' : Parts) → bare_parts ps ≡ bare_parts ps'
     → bare (line_done ps (state_now (of_operator o) c ps.values no_call)) ≡ bare (line_done ps' (state_now (of_operator o) c' ps'.values no_call))
 operator_agree (operator.Prim p) h c c' ps ps' a = ap (λ ps. bare (line_done ps (gives (applied p ps.values) None))) a
-operator_agree o h c c' ps ps' a = impossible h
+operator_agree o h c c' ps ps' a = absurd (false≢true h)
 
 module _ (body body' : List Seen → Done) (h : (vs : List Seen) → bare (body vs) ≡ bare (body' vs)) where
   turns_agree : (t : ℕ) (acc : Seen) (rest : List (List Seen)) → turns body t acc rest ≡ turns body' t acc rest
@@ -153,14 +150,14 @@ module _ (p : Program) (s : FunctionSet) (fits : FitsPure p s) (sources other : 
         let inside = behind_cell (of_operator o) k in
         let inside' = behind_cell (of_operator o) k' in
         operator_agree o pure _ _ (parts ev env inside 0 es) (parts ev' env inside' 0 es) (parts_agree inside inside' 0 es (each_outer Firm es h))
-    one_level k k' (Core-F.Handler g es body) pure named h = impossible pure
+    one_level k k' (Core-F.Handler g es body) pure named h = absurd (false≢true pure)
     one_level k k' (Core-F.Loop g es body) pure named h =
         let n = length es in
         let t = each_body Firm es _ body h in
         let vs = (parts ev env k 0 es).values in
         let turns = all_agree (body_with ev env body) (body_with ev' env body) (λ vs. ih body t.1 (env ++ vs) kept.Nothing kept.Nothing) (part vs 0) (rounds g (part vs 1)) in
         ap (λ t. bare (turns_done n (parts ev env k 0 es) t)) turns ∙ ap (λ ps. bare (loop_done ev' env g n ps body)) (parts_agree k k' 0 es t.0)
-    one_level k k' (Core-F.Feedback init body) pure named h = impossible pure
+    one_level k k' (Core-F.Feedback init body) pure named h = absurd (false≢true pure)
 
   -- at every number of levels
   steady : (n : ℕ) (e : Core) → Firm e → Steady (eval_to n (world_of p sources)) (eval_to n (world_of p other)) e
