@@ -4,8 +4,8 @@ use Rattle.fr_core.specs.Shapes.{parts_in}
 use Rattle.fr_core.specs.declared.core_form.Core.{Core, out-Core, fold_out-Core, map-Core}
 use Rattle.fr_core.specs.declared.core_form.Core.TheOpen.{Core-F}
 use Rattle.fr_core.proofs.Parts.{parts_in-map}
+use Rattle.fr_core.proofs.Folds.{Each}
 use Rattle.fr_meaning.specs.Dependence.{joined, own_variable, variables_step, variables, own_source, sources_step, sources_of, AgreeAt}
-use Rattle.fr_meaning.proofs.Each.{Each}
 
 own_variable-map : {X Y : Type 0} (f : X → Y) (l : Core-F X) → own_variable (map-Core X Y f l) ≡ own_variable l
 own_variable-map f (Core-F.Var x) = refl

@@ -15,7 +15,7 @@ use Rattle.fr_core.specs.declared.kept.Kept.{Kept}
 use Rattle.fr_core.specs.declared.kept.Kept.TheVariants as kept
 use Rattle.fr_core.specs.declared.program.Function.{Function}
 use Rattle.fr_core.specs.declared.program.Program.{Program}
-use Rattle.fr_core.proofs.Folds.{judge-opens, names-opens}
+use Rattle.fr_core.proofs.Folds.{judge-opens, names-opens, Each, by_parts}
 use Rattle.fr_meaning.specs.Words.{Seen, Env, Done, under, part}
 use Rattle.fr_meaning.specs.Primitives.{applied}
 use Rattle.fr_meaning.specs.Cells.{Cell, child}
@@ -24,7 +24,7 @@ use Rattle.fr_meaning.specs.Evaluation.{world_of, Ev, Parts, parts, join_part, e
 use Rattle.fr_meaning.specs.Agreement.{Agree, IsSteady, IsSteadyOver}
 use Rattle.fr_meaning.specs.Dependence.{joined, own_source, sources_of, AgreeAt}
 use Rattle.fr_meaning.proofs.Begins.{choice_cases}
-use Rattle.fr_meaning.proofs.Each.{Each, each_outer, each_body, by_parts}
+use Rattle.fr_meaning.proofs.Each.{each_outer, each_body}
 use Rattle.fr_meaning.proofs.Named.{sources-opens, both_agree, always_agree}
 
 both_true : (a b : Bool) → a && b ≡ true → (a ≡ true) × (b ≡ true)
