@@ -1,6 +1,5 @@
 -- The cost of an evaluation is the sum over the places that it evaluates.
-use Rattle.std.proofs.Common.{◌≡◌, ◌≤◌, ℕ, ◌+◌, ◌-◌, zero, suc, Bool, true, false, List, [], ◌∷◌, ◌++◌, length, slice_get, refl, ap, ◌∙◌, arith, Option, Some, None, Result, Ok, Err}
-use Rattle.fr_value.specs.Data.{total}
+use Rattle.std.proofs.Common.{◌≡◌, ◌≤◌, ℕ, ◌+◌, ◌-◌, zero, suc, Bool, true, false, List, [], ◌∷◌, ◌++◌, length, slice_get, refl, arith, Option, Some, None, Result, Ok, Err}
 use Rattle.fr_value.specs.declared.value.Value.{Value}
 use Rattle.fr_value.specs.declared.now.Bad.{Bad}
 use Rattle.fr_value.specs.declared.now.Now.{Now}
@@ -14,12 +13,12 @@ use Rattle.fr_core.specs.declared.kept.Kept.TheVariants as kept
 use Rattle.fr_core.specs.declared.program.Item.{Item}
 use Rattle.fr_core.specs.declared.program.Item.TheVariants as item
 use Rattle.fr_core.specs.declared.program.Program.{Program}
-use Rattle.fr_meaning.specs.Words.{Seen, Env, Done, part, on_ok, event_of, datum_in, test_of}
+use Rattle.fr_meaning.specs.Words.{Seen, Env, Done, part, event_of, datum_in}
 use Rattle.fr_meaning.specs.Cells.{Cell, child}
 use Rattle.fr_meaning.specs.States.{Line, Call, Begun, known, asks, of_operator, of_handler, of_feedback, fed, line_unless_refused, base_of, leftmost, is_spent, once_line, beside, early_value, state_next, handler_begin, handler_end, finished, no_call, state_now}
-use Rattle.fr_meaning.specs.Evaluation.{World, world_of, Ev, Parts, parts, Choice, chosen_by, choose, choice_kept, switch_done, call_done, body_for, Turns, turns, rounds, all_turns, turns_done, body_with, handler, line_done, form_cell, behind_cell, layer, eval_to, eval}
+use Rattle.fr_meaning.specs.Evaluation.{World, world_of, Ev, Parts, parts, Choice, choose, choice_kept, switch_done, call_done, body_for, turns, rounds, all_turns, turns_done, body_with, handler, line_done, form_cell, behind_cell, layer, eval_to, eval}
 use Rattle.fr_meaning.specs.Afresh.{items, body}
-use Rattle.fr_meaning.specs.Places.{Place, costs, IsSumOver, Visits, itself, within, part_places, switch_places, call_places, turn_places, loop_places, handler_places, places_with, layer_places, places_to, places, item_places, body_places}
+use Rattle.fr_meaning.specs.Places.{Place, IsSumOver, Visits, itself, within, part_places, switch_places, call_places, turn_places, loop_places, handler_places, places_with, layer_places, places_to, places, item_places, body_places}
 use Rattle.fr_meaning.proofs.Begins.{IsBehindTest, behind_test, BeginsWell, begins_well}
 use Rattle.fr_meaning.proofs.Blocks.{Blocks, none, block, grown, join, next, whole}
 

@@ -1,5 +1,5 @@
 -- An evaluation depends only on the values of the places that it uses.
-use Rattle.std.proofs.Common.{◌≡◌, ℕ, ◌+◌, ◌-◌, zero, suc, Bool, true, false, List, [], ◌∷◌, ◌++◌, map, length, slice_get, refl, sym, ap, ◌∙◌, inl, inr, subst, Some, Result, Ok, Err}
+use Rattle.std.proofs.Common.{◌≡◌, ℕ, ◌+◌, ◌-◌, zero, suc, List, [], ◌∷◌, ◌++◌, length, slice_get, refl, sym, ap, ◌∙◌, inl, inr, subst, Some, Result, Ok, Err}
 use Rattle.std.proofs.lemmas.List.{map-append}
 use Rattle.fr_value.specs.declared.now.Bad.{Bad}
 use Rattle.fr_core.specs.declared.core_form.Core.{Core, out-Core}
@@ -9,7 +9,7 @@ use Rattle.fr_core.specs.declared.kept.Kept.TheVariants as kept
 use Rattle.fr_meaning.specs.Words.{Seen, Done, under, found, part}
 use Rattle.fr_meaning.specs.Cells.{child}
 use Rattle.fr_meaning.specs.States.{Line, Called, Begun, known, asks, finished, of_operator, of_handler, of_feedback, fed, no_call, handler_begin, handler_end, state_now}
-use Rattle.fr_meaning.specs.Evaluation.{World, Ev, Parts, parts, no_parts, join_part, leaf, after_parts, Choice, choose, choice_kept, choice_done, switch_done, call_done, body_for, Turns, turned, turns, all_turns, rounds, turns_done, loop_done, body_with, handler, line_done, form_cell, behind_cell, layer, eval_to, eval}
+use Rattle.fr_meaning.specs.Evaluation.{World, Ev, parts, no_parts, join_part, leaf, after_parts, Choice, choose, choice_kept, choice_done, switch_done, call_done, body_for, turned, turns, all_turns, rounds, turns_done, loop_done, body_with, handler, line_done, form_cell, behind_cell, layer, eval_to, eval}
 use Rattle.fr_meaning.specs.Order.{Use, Binding, env_of, Traces, IsUsed, AgreeWhere, AgreeWhereUsed, part_at, uses_part, part_uses, given, given_by_parts, variable_uses, switch_uses, turn_at, turn_uses, turn_scope, loop_uses, unless_bad, body_uses_with, waits, handler_uses, layer_uses, uses_to, uses}
 
 given_values : (place : ℕ → List ℕ) (i : ℕ) (vs : List Seen) → env_of (given place i vs) ≡ vs

@@ -1,5 +1,5 @@
 -- The variables and the sources that an expression names.
-use Rattle.std.proofs.Common.{◌≡◌, ℕ, List, [], ◌∷◌, ◌++◌, map, slice_get, refl, ◌∙◌}
+use Rattle.std.proofs.Common.{◌≡◌, ℕ, List, [], ◌∷◌, ◌++◌, map, refl, ◌∙◌}
 use Rattle.fr_core.specs.Shapes.{parts_in}
 use Rattle.fr_core.specs.declared.core_form.Core.{Core, out-Core, fold_out-Core, map-Core}
 use Rattle.fr_core.specs.declared.core_form.Core.TheOpen.{Core-F}

@@ -1,5 +1,5 @@
 -- Each place of an evaluation uses only places that end before it.
-use Rattle.std.proofs.Common.{◌≡◌, ◌<◌, ◌≤◌, ◌⊎◌, ℕ, ◌+◌, ◌-◌, zero, suc, Bool, true, false, List, [], ◌∷◌, ◌++◌, map, length, slice_get, refl, sym, ap, ◌∙◌, inl, inr, arith, subst, Option, Some, None, Result, Ok, Err}
+use Rattle.std.proofs.Common.{◌≡◌, ◌<◌, ◌≤◌, ◌⊎◌, ℕ, ◌+◌, ◌-◌, zero, suc, List, [], ◌∷◌, ◌++◌, length, slice_get, refl, sym, ap, ◌∙◌, inl, inr, arith, subst, Option, Some, None, Result, Ok, Err}
 use Rattle.std.proofs.lemmas.Bool.{cases_order}
 use Rattle.std.proofs.lemmas.List.{append_assoc, append-nil}
 use Rattle.fr_value.specs.declared.now.Now.{Now}
@@ -11,10 +11,10 @@ use Rattle.fr_core.specs.declared.kept.Kept.TheVariants as kept
 use Rattle.fr_core.specs.declared.program.Item.{Item}
 use Rattle.fr_core.specs.declared.program.Item.TheVariants as item
 use Rattle.fr_core.specs.declared.program.Program.{Program}
-use Rattle.fr_meaning.specs.Words.{Seen, Env, Done, part, on_ok, test_of}
+use Rattle.fr_meaning.specs.Words.{Seen, Env, Done, part}
 use Rattle.fr_meaning.specs.Cells.{child}
 use Rattle.fr_meaning.specs.States.{Begun, known, asks, of_operator, of_handler, of_feedback, fed, handler_begin}
-use Rattle.fr_meaning.specs.Evaluation.{World, world_of, Ev, parts, Choice, chosen_by, choose, choice_kept, body_for, body_with, rounds, form_cell, behind_cell, eval_to, eval}
+use Rattle.fr_meaning.specs.Evaluation.{World, world_of, Ev, parts, Choice, choose, choice_kept, body_for, body_with, rounds, form_cell, behind_cell, eval_to, eval}
 use Rattle.fr_meaning.specs.Order.{EndsBefore, Use, AreInOrder, Binding, env_of, IsReady, AreReady, Traces, part_at, uses_part, part_uses, given, given_by_parts, variable_uses, switch_uses, call_uses, turn_at, turn_uses, turn_scope, loop_uses, unless_bad, body_uses_with, waits, handler_uses, layer_uses, uses_to, uses, item_uses, body_uses}
 use Rattle.fr_meaning.proofs.Begins.{IsBehindTest, behind_test, BeginsWell, begins_well, TurnsWell, rounds_well}
 

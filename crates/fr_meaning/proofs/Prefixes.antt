@@ -1,5 +1,5 @@
 -- Parts and items that are evaluated before others don't depend on them.
-use Rattle.std.proofs.Common.{◌≡◌, ℕ, ◌+◌, List, [], ◌∷◌, ◌++◌, length, refl, ap, ◌∙◌, arith, Some, None}
+use Rattle.std.proofs.Common.{◌≡◌, ℕ, ◌+◌, List, [], ◌∷◌, ◌++◌, length, refl, arith, Some, None}
 use Rattle.std.specs.Option.{option_or}
 use Rattle.std.proofs.lemmas.List.{append_assoc, append-nil}
 use Rattle.fr_core.specs.declared.core_form.Core.{Core}
@@ -8,7 +8,7 @@ use Rattle.fr_core.specs.declared.program.Item.{Item}
 use Rattle.fr_core.specs.declared.program.Item.TheVariants as item
 use Rattle.fr_meaning.specs.Words.{Seen, Env, First, Done, under}
 use Rattle.fr_meaning.specs.Cells.{child}
-use Rattle.fr_meaning.specs.Evaluation.{Ev, parts, join_part}
+use Rattle.fr_meaning.specs.Evaluation.{Ev, parts}
 use Rattle.fr_meaning.specs.Afresh.{Evaluated, items, join_item}
 use Rattle.fr_meaning.specs.Dependence.{parts_followed, bound, followed}
 
