@@ -9,7 +9,7 @@ use Rattle.fr_core.specs.declared.core_form.Loop.{Loop}
 use Rattle.fr_core.specs.declared.core_form.Loop.TheVariants as loop
 use Rattle.fr_meaning.specs.Words.{Seen, part, on_ok, event_of, test_of}
 use Rattle.fr_meaning.specs.Cells.{Cell}
-use Rattle.fr_meaning.specs.States.{Line, Begun, known, asks, begun_unless_refused, asks_payload, asks_both, base_of, keeps, stays, collect_begin, handler_begin}
+use Rattle.fr_meaning.specs.States.{Line, Begun, known, asks, begun_unless_refused, asks_payload, event_begin, asks_both, base_of, keeps, stays, collect_begin, handler_begin}
 use Rattle.fr_meaning.specs.Evaluation.{Choice, chosen_by, choose, rounds}
 
 -- what holds of a refusal and of either choice holds of what a test chooses
@@ -34,10 +34,17 @@ abbrev pub BeginsWell : ℕ → Begun → Type 0
 BeginsWell n (known l) = l.cost ≡ 0
 BeginsWell n (asks args) = length args ≤ n
 
-event_well : (n : ℕ) (r : Result (Option Value) Bad) → BeginsWell (suc n) (begun_unless_refused asks_payload r)
-event_well n (Err b) = refl
-event_well n (Ok None) = refl
-event_well n (Ok (Some v)) = omega arith
+over_event : (n : ℕ) (f : Option Value → Begun) → ((o : Option Value) → BeginsWell n (f o)) → (r : Result (Option Value) Bad) → BeginsWell n (begun_unless_refused f r)
+over_event n f h (Err b) = refl
+over_event n f h (Ok o) = h o
+
+payload_well : (n : ℕ) (o : Option Value) → BeginsWell (suc n) (asks_payload o)
+payload_well n None = refl
+payload_well n (Some v) = omega arith
+
+event_well : (xs : List Seen) → BeginsWell (length xs) (event_begin xs)
+event_well [] = refl
+event_well (x ∷ xs) = over_event (suc (length xs)) asks_payload (payload_well (length xs)) (event_of x)
 
 both_well : (quiet : Value → Line) → ((v : Value) → (quiet v).cost ≡ 0) → (n : ℕ) (o : Option Value) (base : Result Value Bad) → BeginsWell (suc (suc n)) (begun_unless_refused (asks_both quiet o) base)
 both_well quiet q n o (Err b) = refl
@@ -46,22 +53,12 @@ both_well quiet q n (Some p) (Ok v) = omega arith
 
 collect_well : (quiet : Value → Line) → ((v : Value) → (quiet v).cost ≡ 0) → (cell : Option Cell) (xs : List Seen) → BeginsWell (length xs) (collect_begin quiet cell xs)
 collect_well quiet q cell [] = refl
-collect_well quiet q cell (x ∷ []) = lone (event_of x)
-  where
-    lone : (r : Result (Option Value) Bad) → BeginsWell 1 (begun_unless_refused (λ o. begun_unless_refused (asks_both quiet o) (base_of cell (part (x ∷ []) 1))) r)
-    lone (Err b) = refl
-    lone (Ok o) = refl
-collect_well quiet q cell (x ∷ y ∷ xs) = with_base (event_of x)
-  where
-    with_base : (r : Result (Option Value) Bad) → BeginsWell (suc (suc (length xs))) (begun_unless_refused (λ o. begun_unless_refused (asks_both quiet o) (base_of cell y)) r)
-    with_base (Err b) = refl
-    with_base (Ok o) = both_well quiet q (length xs) o (base_of cell y)
+collect_well quiet q cell (x ∷ []) = over_event 1 _ (λ o. refl) (event_of x)
+collect_well quiet q cell (x ∷ y ∷ xs) = over_event (suc (suc (length xs))) _ (λ o. both_well quiet q (length xs) o (base_of cell y)) (event_of x)
 
 pub begins_well : (h : Handler) (cell : Option Cell) (xs : List Seen) → BeginsWell (length xs) (handler_begin h cell xs)
-begins_well handler.MapE cell [] = refl
-begins_well handler.MapE cell (x ∷ xs) = event_well (length xs) (event_of x)
-begins_well handler.FilterE cell [] = refl
-begins_well handler.FilterE cell (x ∷ xs) = event_well (length xs) (event_of x)
+begins_well handler.MapE cell xs = event_well xs
+begins_well handler.FilterE cell xs = event_well xs
 begins_well handler.CollectB cell xs = collect_well keeps (λ v. refl) cell xs
 begins_well handler.CollectE cell xs = collect_well stays (λ v. refl) cell xs
 

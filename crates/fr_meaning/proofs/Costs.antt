@@ -23,7 +23,7 @@ use Rattle.fr_meaning.proofs.Begins.{IsBehindTest, behind_test, BeginsWell, begi
 use Rattle.fr_meaning.proofs.Blocks.{Blocks, none, block, grown, join, next, whole}
 
 -- each evaluation costs the sum over its places
-abbrev Sums : Ev → Visits → Type 0
+abbrev pub Sums : Ev → Visits → Type 0
 Sums ev visits = (e : Core) (env : Env) (k : Kept) → IsSumOver (ev e env k).cost (visits e env k)
 
 -- an expression that costs nothing beside its parts
@@ -130,15 +130,12 @@ module _ (ev : Ev) (visits : Visits) (ih : Sums ev visits) where
   item_blocks env k i (item.Show name e ∷ is) = next i (length is) _ _ _ _ (ih e env (child k i)) (item_blocks env k (i + 1) is)
 
 -- at every number of levels
-sums : (n : ℕ) (w : World) → Sums (eval_to n w) (places_to n w)
+pub cost_is_a_sum : (n : ℕ) (w : World) → Sums (eval_to n w) (places_to n w)
 unfolding eval_to places_to
-sums zero w e env k = alone 0 0 [] (none 0 0)
-sums (suc n) w e env k = one_level (eval_to n w) (places_to n w) (sums n w) w env k (out-Core e)
-
-pub cost_is_a_sum : (w : World) (nest : ℕ) (e : Core) (env : Env) (k : Kept) → IsSumOver (eval w nest e env k).cost (places w nest e env k)
-cost_is_a_sum w nest e env k = sums (2001 - nest) w e env k
+cost_is_a_sum zero w e env k = alone 0 0 [] (none 0 0)
+cost_is_a_sum (suc n) w e env k = one_level (eval_to n w) (places_to n w) (cost_is_a_sum n w) w env k (out-Core e)
 
 pub body_cost_is_a_sum : (p : Program) (sources : List Now) (k : Kept) → IsSumOver (body p sources k).cost (body_places p sources k)
 body_cost_is_a_sum p sources k =
-    let b = item_blocks (eval (world_of p sources) 1) (places (world_of p sources) 1) (cost_is_a_sum (world_of p sources) 1) [] k 0 p.body in
+    let b = item_blocks (eval (world_of p sources) 1) (places (world_of p sources) 1) (cost_is_a_sum (2001 - 1) (world_of p sources)) [] k 0 p.body in
     record { sum = b.sum; distinct = b.distinct }

@@ -1,6 +1,5 @@
 pub mod Levels
 mod Examples
-pub mod Each
 pub mod Named
 pub mod Begins
 pub mod Pure

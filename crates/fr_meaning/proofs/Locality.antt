@@ -12,11 +12,10 @@ use Rattle.fr_meaning.specs.States.{Call, of_operator, of_handler, of_feedback, 
 use Rattle.fr_meaning.specs.Evaluation.{World, Ev, Parts, parts, no_parts, join_part, leaf, after_parts, Choice, chosen_by, choose, choice_kept, choice_done, switch_done, call_done, body_for, all_turns, rounds, turns_done, body_with, line_done, form_cell, behind_cell, layer, eval_to, eval}
 use Rattle.fr_meaning.specs.Dependence.{joined, own_variable, variables, AgreeAt}
 use Rattle.fr_meaning.proofs.Begins.{choice_cases}
-use Rattle.fr_meaning.proofs.Each.{each_outer, each_body}
-use Rattle.fr_meaning.proofs.Named.{variables-opens, both_agree, each_agree}
+use Rattle.fr_meaning.proofs.Named.{variables-opens, both_agree, each_agree, each_outer, each_body}
 
 -- an evaluation depends on the variables that the expression names alone
-abbrev Local : Ev → Type 0
+abbrev pub Local : Ev → Type 0
 Local ev = (e : Core) (env other : Env) (k : Kept) → length env ≡ length other → AgreeAt (variables e) env other → ev e env k ≡ ev e other k
 
 -- they agree at what an expression names
@@ -85,14 +84,10 @@ module _ (ev : Ev) (ih : Local ev) (env other : Env) (l : length env ≡ length 
       ap (line i) (body_local (fed cell i.value ∷ []) (child inside 1) body h.1.0) ∙ ap (λ i. line i (ev body (other ++ fed cell i.value ∷ []) (child inside 1))) (ih init env other (child inside 0) l h.0)
 
 -- at every number of levels
-is_local : (n : ℕ) (w : World) → Local (eval_to n w)
+pub named_variables_decide : (n : ℕ) (w : World) → Local (eval_to n w)
 unfolding eval_to
-is_local zero w e env other k l h = refl
-is_local (suc n) w e env other k l h =
+named_variables_decide zero w e env other k l h = refl
+named_variables_decide (suc n) w e env other k l h =
     let f = out-Core e in
     let t = both_agree (own_variable f) (joined (map variables (parts_in f))) env other (subst (λ xs. AgreeAt xs env other) (variables-opens e) h) in
-    one_level (eval_to n w) (is_local n w) env other l w k f t.0 (each_agree variables env other (parts_in f) t.1)
-
-pub named_variables_decide : (w : World) (nest : ℕ) (e : Core) (env other : Env) (k : Kept) → length env ≡ length other → AgreeAt (variables e) env other
-    → eval w nest e env k ≡ eval w nest e other k
-named_variables_decide w nest e env other k long agree = is_local (2001 - nest) w e env other k long agree
+    one_level (eval_to n w) (named_variables_decide n w) env other l w k f t.0 (each_agree variables env other (parts_in f) t.1)

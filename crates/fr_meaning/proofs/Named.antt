@@ -1,9 +1,10 @@
--- The variables and the sources that an expression names.
-use Rattle.std.proofs.Common.{◌≡◌, ℕ, List, [], ◌∷◌, ◌++◌, map, refl, ◌∙◌}
-use Rattle.fr_core.specs.Shapes.{parts_in}
+-- The variables and the sources that an expression names, and what holds of each of its parts.
+use Rattle.std.proofs.Common.{◌≡◌, ℕ, List, [], ◌∷◌, ◌++◌, map, refl, ◌∙◌, subst}
+use Rattle.fr_core.specs.Shapes.{outer, parts_in}
 use Rattle.fr_core.specs.declared.core_form.Core.{Core, out-Core, fold_out-Core, map-Core}
 use Rattle.fr_core.specs.declared.core_form.Core.TheOpen.{Core-F}
 use Rattle.fr_core.proofs.Parts.{parts_in-map}
+use Rattle.fr_core.proofs.PartLists.{parts-outer}
 use Rattle.fr_core.proofs.Folds.{Each}
 use Rattle.fr_meaning.specs.Dependence.{joined, own_variable, variables_step, variables, own_source, sources_step, sources_of, AgreeAt}
 
@@ -36,3 +37,12 @@ each_agree named xs others (e ∷ es) h = let t = both_agree (named e) (joined (
 pub always_agree : {X : Type 0} (ns : List ℕ) (xs : List X) → AgreeAt ns xs xs
 always_agree [] xs = tt
 always_agree (n ∷ ns) xs = (refl, always_agree ns xs)
+
+-- the parts are a list, or a list with a body behind it
+
+pub each_outer : (P : Core → Type 0) (es : List Core) → Each P (map (λ (x : ℕ × Core). x.1) (outer es)) → Each P es
+each_outer P es h = subst (Each P) (parts-outer es) h
+
+pub each_body : (P : Core → Type 0) (es : List Core) (n : ℕ) (b : Core) → Each P (map (λ (x : ℕ × Core). x.1) (outer es ++ (n, b) ∷ [])) → Each P es × P b
+each_body P [] n b h = (tt, h.0)
+each_body P (e ∷ es) n b h = let t = each_body P es n b h.1 in ((h.0, t.0), t.1)

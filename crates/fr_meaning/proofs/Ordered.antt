@@ -89,7 +89,7 @@ variable_in_order at (v ∷ scope) zero h = (ready_before v.place at h.0, tt)
 variable_in_order at (v ∷ scope) (suc x) h = variable_in_order at scope x h.1
 
 -- an evaluation at a place for which its scope is ready uses only what ends before
-abbrev Ordered : Traces → Type 0
+abbrev pub Ordered : Traces → Type 0
 Ordered trace = (e : Core) (scope : List Binding) (k : Kept) (at : List ℕ) → AreReady scope at → AreInOrder (trace e scope k at)
 
 -- as many values as parts
@@ -184,13 +184,10 @@ module _ (trace : Traces) (ih : Ordered trace) (scope : List Binding) (at : List
       behind_parts inside (init ∷ []) _ (body_ordered 1 more (child inside 1) body (part_ready at 0 1 (omega arith), tt))
 
 -- at every number of levels
-ordered : (n : ℕ) (w : World) → Ordered (uses_to n w)
+pub uses_are_in_order : (n : ℕ) (w : World) → Ordered (uses_to n w)
 unfolding uses_to
-ordered zero w e scope k at h = tt
-ordered (suc n) w e scope k at h = one_level (uses_to n w) (ordered n w) scope at h w (eval_to n w) k (out-Core e)
-
-pub uses_are_in_order : (w : World) (nest : ℕ) (e : Core) (scope : List Binding) (k : Kept) (at : List ℕ) → AreReady scope at → AreInOrder (uses w nest e scope k at)
-uses_are_in_order w nest e scope k at h = ordered (2001 - nest) w e scope k at h
+uses_are_in_order zero w e scope k at h = tt
+uses_are_in_order (suc n) w e scope k at h = one_level (uses_to n w) (uses_are_in_order n w) scope at h w (eval_to n w) k (out-Core e)
 
 -- ready for all items from this number on
 abbrev ReadyFrom : ℕ → List Binding → Type 0
@@ -208,4 +205,4 @@ module _ (ev : Ev) (trace : Traces) (ih : Ordered trace) (k : Kept) where
 
 pub body_is_in_order : (p : Program) (sources : List Now) (k : Kept) → AreInOrder (body_uses p sources k)
 body_is_in_order p sources k =
-    items_ordered (eval (world_of p sources) 1) (uses (world_of p sources) 1) (uses_are_in_order (world_of p sources) 1) k 0 [] p.body (λ m l. tt)
+    items_ordered (eval (world_of p sources) 1) (uses (world_of p sources) 1) (uses_are_in_order (2001 - 1) (world_of p sources)) k 0 [] p.body (λ m l. tt)

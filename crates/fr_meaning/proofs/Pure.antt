@@ -24,8 +24,7 @@ use Rattle.fr_meaning.specs.Evaluation.{world_of, Ev, Parts, parts, join_part, e
 use Rattle.fr_meaning.specs.Agreement.{IsSteady, IsSteadyOver}
 use Rattle.fr_meaning.specs.Dependence.{joined, own_source, sources_of, AgreeAt}
 use Rattle.fr_meaning.proofs.Begins.{choice_cases}
-use Rattle.fr_meaning.proofs.Each.{each_outer, each_body}
-use Rattle.fr_meaning.proofs.Named.{sources-opens, both_agree, always_agree}
+use Rattle.fr_meaning.proofs.Named.{sources-opens, both_agree, always_agree, each_outer, each_body}
 
 both_true : (a b : Bool) → a && b ≡ true → (a ≡ true) × (b ≡ true)
 both_true true true h = (refl, refl)
