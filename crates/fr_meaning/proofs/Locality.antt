@@ -1,5 +1,5 @@
 -- An evaluation depends on the variables that the expression names alone.
-use Rattle.std.proofs.Common.{◌≡◌, ℕ, ◌+◌, ◌-◌, zero, suc, true, false, List, [], ◌∷◌, ◌++◌, map, length, slice_get, refl, ap, ◌∙◌, arith, subst, length-append}
+use Rattle.std.proofs.Common.{◌≡◌, ℕ, ◌+◌, zero, suc, true, false, List, [], ◌∷◌, ◌++◌, map, length, slice_get, refl, ap, ◌∙◌, arith, subst, length-append}
 use Rattle.fr_core.specs.Shapes.{parts_in}
 use Rattle.fr_core.specs.declared.core_form.Core.{Core, out-Core}
 use Rattle.fr_core.specs.declared.core_form.Core.TheOpen.{Core-F}
@@ -9,7 +9,7 @@ use Rattle.fr_core.proofs.Folds.{Each}
 use Rattle.fr_meaning.specs.Words.{Seen, Env, Done, under, found, part}
 use Rattle.fr_meaning.specs.Cells.{child}
 use Rattle.fr_meaning.specs.States.{Call, of_operator, of_handler, of_feedback, fed, no_call, state_now}
-use Rattle.fr_meaning.specs.Evaluation.{World, Ev, Parts, parts, no_parts, join_part, leaf, after_parts, Choice, chosen_by, choose, choice_kept, choice_done, switch_done, call_done, body_for, all_turns, rounds, turns_done, body_with, line_done, form_cell, behind_cell, layer, eval_to, eval}
+use Rattle.fr_meaning.specs.Evaluation.{World, Ev, Parts, parts, no_parts, join_part, leaf, after_parts, Choice, chosen_by, choose, choice_kept, choice_done, switch_done, call_done, body_for, all_turns, rounds, turns_done, body_with, line_done, form_cell, behind_cell, layer, eval_to}
 use Rattle.fr_meaning.specs.Dependence.{joined, own_variable, variables, AgreeAt}
 use Rattle.fr_meaning.proofs.Begins.{choice_cases}
 use Rattle.fr_meaning.proofs.Named.{variables-opens, both_agree, each_agree, each_outer, each_body}
