@@ -71,11 +71,9 @@ turns_well : (n : ℕ) (r : Result (List (List Seen)) Bad) → TurnsWell (suc (s
 turns_well n (Err b) = tt
 turns_well n (Ok rest) = omega arith
 
-none_well : (l : Loop) (n : ℕ) (b : Bad) → TurnsWell n (rounds l (Err b))
-none_well loop.Fold n b = tt
-none_well loop.Repeat n b = tt
-
 pub rounds_well : (l : Loop) (xs : List Seen) → TurnsWell (length xs) (rounds l (part xs 1))
-rounds_well l [] = none_well l 0 _
-rounds_well l (x ∷ []) = none_well l 1 _
+rounds_well loop.Fold [] = tt
+rounds_well loop.Fold (x ∷ []) = tt
+rounds_well loop.Repeat [] = tt
+rounds_well loop.Repeat (x ∷ []) = tt
 rounds_well l (x ∷ y ∷ xs) = turns_well (length xs) (rounds l y)
