@@ -45,7 +45,8 @@ total_order [] (j ∷ q) = inr (inr tt)
 total_order (i ∷ p) [] = inr (inl tt)
 total_order (i ∷ p) (j ∷ q) = elim (cases_order i j) [
   | inl e ↦ same_part i j p q e (total_order p q)
-  | inr o ↦ elim o [ inl l ↦ inr (inl (inl l)) | inr g ↦ inr (inr (inl g)) ]
+  | inr (inl l) ↦ inr (inl (inl l))
+  | inr (inr g) ↦ inr (inr (inl g))
 ]
 
 -- a part, and all inside it, ends before the whole

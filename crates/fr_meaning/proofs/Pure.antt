@@ -70,11 +70,6 @@ module _ (body body' : List Seen → Done) (h : (vs : List Seen) → bare (body 
   all_agree acc (Err b) = refl
   all_agree acc (Ok rest) = turns_agree 0 acc rest
 
--- the body of a function, where there is one
-abbrev OfBody : (Core → Type 0) → Option Function → Type 0
-OfBody P None = Unit {0}
-OfBody P (Some f) = P f.body
-
 -- what a switch chooses, where it chooses
 abbrev OfChoice : (Core → Type 0) → Result Choice Bad → Type 0
 OfChoice P (Err b) = Unit {0}
@@ -93,14 +88,17 @@ module _ (p : Program) (s : FunctionSet) (fits : FitsPure p s) (sources other : 
       let u = both_agree (sources_of e) (joined (map sources_of es)) sources other g in
       (record { pure = t.0; named = u.0 }, each_firm es t.1 u.1)
 
-  -- a pure function's body names no source
-  firm_body : (f : ℕ) → s f ≡ true → OfBody Firm (slice_get p.functions f)
-  firm_body f member =
-      let over = fits.fits f member in
+  -- the body that a pure call evaluates: it names no source
+  firm_call : (f n : ℕ) → calls_of p s f n ≡ true → (body : Core) × (body_for (slice_get p.functions f) n ≡ Some body) × Firm body
+  firm_call f n pure =
+      let t = both_true (s f) (takes (slice_get p.functions f) n) pure in
+      let over = fits.fits f t.0 in
       let closed = over.closed.fits.fits f over.closed.member in
-      let names = subst (OfBody (λ e. names_only over.closed.set e ≡ true)) (sym closed.stands ∙ over.stands) closed.body in
-      let none = names_none over.closed.set over.function.body names in
-      subst (OfBody Firm) (sym over.stands) (record { pure = over.body; named = subst (λ ns. AgreeAt ns sources other) (sym none) tt })
+      let same : closed.function ≡ over.function = cc (closed.stands, over.stands) in
+      let none = names_none over.closed.set over.function.body (ap (λ g. names_only over.closed.set g.body) (sym same) ∙ closed.body) in
+      let arity = subst (λ o. takes o n ≡ true) over.stands t.1 in
+      let stands = ap (λ o. body_for o n) over.stands ∙ ap (λ b. if b then Some over.function.body else None) arity in
+      (over.function.body, stands, record { pure = over.body; named = subst (λ ns. AgreeAt ns sources other) (sym none) tt })
 
   -- two evaluations of an expression tell the same, over any two kept trees
   abbrev Steady : Ev → Ev → Core → Type 0
@@ -116,16 +114,6 @@ module _ (p : Program) (s : FunctionSet) (fits : FitsPure p s) (sources other : 
     switch_agree : (k k' : Kept) (t t' : Done) → bare t ≡ bare t' → (r : Result Choice Bad) → OfChoice (Steady ev ev') r → bare (switch_done ev env k t r) ≡ bare (switch_done ev' env k' t' r)
     switch_agree k k' t t' a (Err bad) h = ap (λ t. bare (test_refused t bad)) a
     switch_agree k k' t t' a (Ok c) h = ap (λ d. bare (choice_done t c d)) (h env (choice_kept k c) (choice_kept k' c)) ∙ ap (λ t. bare (choice_done t c (ev' c.expr env (choice_kept k' c)))) a
-
-    call_agree : (k k' : Kept) (n : ℕ) (ps ps' : Parts) → bare_parts ps ≡ bare_parts ps' → (o : Option Function) → OfBody Firm o → bare (call_done ev k n ps (body_for o n)) ≡ bare (call_done ev' k' n ps' (body_for o n))
-    call_agree k k' n ps ps' a None h = ap (λ ps. bare (parts_only (Err Arity) ps)) a
-    call_agree k k' n ps ps' a (Some f) h = by_arity (f.params == n)
-      where
-        by_arity : (t : Bool) → bare (call_done ev k n ps (if t then Some f.body else None)) ≡ bare (call_done ev' k' n ps' (if t then Some f.body else None))
-        by_arity false = ap (λ ps. bare (parts_only (Err Arity) ps)) a
-        by_arity true =
-            ap (λ (d : Done). bare (ended d.value kept.Nothing (ps.cost + (d.cost + 1)) (option_or ps.first (under n d.first)))) (ih f.body h ps.values (child k n) (child k' n))
-            ∙ ap (λ ps. bare (call_done ev' k' n ps (Some f.body))) a
 
     one_level : (k k' : Kept) (l : Core-F Core) → pure_itself (calls_of p s) l ≡ true → AgreeAt (own_source l) sources other → Each Firm (parts_in l)
         → bare (layer (world_of p sources) ev env k l) ≡ bare (layer (world_of p other) ev' env k' l)
@@ -143,8 +131,11 @@ module _ (p : Program) (s : FunctionSet) (fits : FitsPure p s) (sources other : 
         let v = (ev test env (child k 0)).value in
         rw (← ap (λ d. d.value) t) (switch_agree k k' _ _ t (choose a b v) (choice_cases (OfChoice (Steady ev ev')) a b (λ bad. tt) (ih a h.1.0) (ih b h.1.1.0) v))
     one_level k k' (Core-F.Apply f es) pure named h =
-        let firm = firm_body f.0 (both_true (s f.0) (takes (slice_get p.functions f.0) (length es)) pure).0 in
-        call_agree k k' (length es) _ (parts ev' env k' 0 es) (parts_agree k k' 0 es (each_outer Firm es h)) (slice_get p.functions f.0) firm
+        let n = length es in
+        let c = firm_call f.0 n pure in
+        let ps = parts ev env k 0 es in
+        rw c.1 (ap (λ (d : Done). bare (ended d.value kept.Nothing (ps.cost + (d.cost + 1)) (option_or ps.first (under n d.first)))) (ih c.0 c.2 ps.values (child k n) (child k' n))
+        ∙ ap (λ ps. bare (call_done ev' k' n ps (Some c.0))) (parts_agree k k' 0 es (each_outer Firm es h)))
     one_level k k' (Core-F.Operator o es) pure named h =
         let inside = behind_cell (of_operator o) k in
         let inside' = behind_cell (of_operator o) k' in
