@@ -1,10 +1,9 @@
 -- A pure expression's evaluation depends neither on its kept tree nor on sources that it doesn't name.
-use Rattle.std.proofs.Common.{◌≡◌, ℕ, ◌+◌, ◌-◌, ◌==◌, zero, suc, Bool, true, false, ◌&&◌, if◌then◌else◌, List, [], ◌∷◌, ◌++◌, map, length, slice_get, refl, ap, sym, ◌∙◌, subst, Option, Some, None, Result, Ok, Err}
+use Rattle.std.proofs.Common.{◌≡◌, ℕ, ◌+◌, ◌-◌, zero, suc, Bool, true, false, ◌&&◌, if◌then◌else◌, List, [], ◌∷◌, ◌++◌, map, length, slice_get, refl, ap, sym, ◌∙◌, subst, Option, Some, None, Result, Ok, Err}
 use Rattle.std.specs.Option.{option_or}
 use Rattle.std.proofs.lemmas.Bool.{false≢true}
 use Rattle.fr_value.specs.declared.now.Now.{Now}
 use Rattle.fr_value.specs.declared.now.Bad.{Bad}
-use Rattle.fr_value.specs.declared.now.Bad.TheVariants.{Arity}
 use Rattle.fr_core.specs.Shapes.{parts_in, all_true}
 use Rattle.fr_core.specs.Classes.{all_pure, is_prim, pure_itself, judge, FunctionSet, closed_itself, names_only, takes, calls_of, FitsPure, IsPureExpr}
 use Rattle.fr_core.specs.declared.core_form.Core.{Core, out-Core}
@@ -13,14 +12,13 @@ use Rattle.fr_core.specs.declared.core_form.Operator.{Operator}
 use Rattle.fr_core.specs.declared.core_form.Operator.TheVariants as operator
 use Rattle.fr_core.specs.declared.kept.Kept.{Kept}
 use Rattle.fr_core.specs.declared.kept.Kept.TheVariants as kept
-use Rattle.fr_core.specs.declared.program.Function.{Function}
 use Rattle.fr_core.specs.declared.program.Program.{Program}
 use Rattle.fr_core.proofs.Folds.{judge-opens, names-opens, Each, by_parts}
 use Rattle.fr_meaning.specs.Words.{Seen, Env, Done, under, part}
 use Rattle.fr_meaning.specs.Primitives.{applied}
 use Rattle.fr_meaning.specs.Cells.{Cell, child}
 use Rattle.fr_meaning.specs.States.{gives, of_operator, no_call, state_now}
-use Rattle.fr_meaning.specs.Evaluation.{world_of, Ev, Parts, parts, join_part, ended, leaf, source_seen, layer, parts_only, after_parts, Choice, choose, choice_kept, choice_done, test_refused, switch_done, call_done, body_for, turned, turns, turns_done, all_turns, rounds, body_with, loop_done, line_done, behind_cell, eval_to}
+use Rattle.fr_meaning.specs.Evaluation.{world_of, Ev, Parts, parts, join_part, ended, leaf, source_seen, layer, after_parts, Choice, chosen_by, choice_kept, choice_done, test_refused, switch_done, call_done, body_for, turned, turns, turns_done, all_turns, rounds, body_with, loop_done, line_done, behind_cell, eval_to}
 use Rattle.fr_meaning.specs.Agreement.{IsSteady, IsSteadyOver}
 use Rattle.fr_meaning.specs.Dependence.{joined, own_source, sources_of, AgreeAt}
 use Rattle.fr_meaning.proofs.Begins.{choice_cases}
@@ -70,11 +68,6 @@ module _ (body body' : List Seen → Done) (h : (vs : List Seen) → bare (body 
   all_agree acc (Err b) = refl
   all_agree acc (Ok rest) = turns_agree 0 acc rest
 
--- what a switch chooses, where it chooses
-abbrev OfChoice : (Core → Type 0) → Result Choice Bad → Type 0
-OfChoice P (Err b) = Unit {0}
-OfChoice P (Ok c) = P c.expr
-
 module _ (p : Program) (s : FunctionSet) (fits : FitsPure p s) (sources other : List Now) where
   -- an expression is pure where calls of members are, and the sources agree at what it names
   record Firm (e : Core) : Type 0 where
@@ -111,10 +104,6 @@ module _ (p : Program) (s : FunctionSet) (fits : FitsPure p s) (sources other : 
         ap (λ d. bare_parts (join_part i d (parts ev env k (i + 1) es))) (ih e h.0 env (child k i) (child k' i))
         ∙ ap (λ ps. bare_parts (join_part i (ev' e env (child k' i)) ps)) (parts_agree k k' (i + 1) es h.1)
 
-    switch_agree : (k k' : Kept) (t t' : Done) → bare t ≡ bare t' → (r : Result Choice Bad) → OfChoice (Steady ev ev') r → bare (switch_done ev env k t r) ≡ bare (switch_done ev' env k' t' r)
-    switch_agree k k' t t' a (Err bad) h = ap (λ t. bare (test_refused t bad)) a
-    switch_agree k k' t t' a (Ok c) h = ap (λ d. bare (choice_done t c d)) (h env (choice_kept k c) (choice_kept k' c)) ∙ ap (λ t. bare (choice_done t c (ev' c.expr env (choice_kept k' c)))) a
-
     one_level : (k k' : Kept) (l : Core-F Core) → pure_itself (calls_of p s) l ≡ true → AgreeAt (own_source l) sources other → Each Firm (parts_in l)
         → bare (layer (world_of p sources) ev env k l) ≡ bare (layer (world_of p other) ev' env k' l)
     one_level k k' (Core-F.Lit v) pure named h = refl
@@ -127,9 +116,12 @@ module _ (p : Program) (s : FunctionSet) (fits : FitsPure p s) (sources other : 
         ap (λ d. bare (after_parts n ps d)) (ih body t.1 (env ++ ps.values) (child k n) (child k' n))
         ∙ ap (λ ps. bare (after_parts n ps (ev' body (env ++ ps.values) (child k' n)))) (parts_agree k k' 0 es t.0)
     one_level k k' (Core-F.If test a b) pure named h =
-        let t = ih test h.0 env (child k 0) (child k' 0) in
-        let v = (ev test env (child k 0)).value in
-        rw (← ap (λ d. d.value) t) (switch_agree k k' _ _ t (choose a b v) (choice_cases (OfChoice (Steady ev ev')) a b (λ bad. tt) (ih a h.1.0) (ih b h.1.1.0) v))
+        let t = ev test env (child k 0) in
+        let t' = ev' test env (child k' 0) in
+        let q = ih test h.0 env (child k 0) (child k' 0) in
+        let same = λ (c : Choice) (g : Firm c.expr). ap (λ d. bare (choice_done t c d)) (ih c.expr g env (choice_kept k c) (choice_kept k' c)) ∙ ap (λ t. bare (choice_done t c (ev' c.expr env (choice_kept k' c)))) q in
+        rw (← ap (λ d. d.value) q) (choice_cases (λ r. bare (switch_done ev env k t r) ≡ bare (switch_done ev' env k' t' r)) a b (λ bad. ap (λ t. bare (test_refused t bad)) q)
+        (same (chosen_by a b true) h.1.0) (same (chosen_by a b false) h.1.1.0) t.value)
     one_level k k' (Core-F.Apply f es) pure named h =
         let n = length es in
         let c = firm_call f.0 n pure in
