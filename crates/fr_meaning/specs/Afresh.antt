@@ -17,7 +17,7 @@ use Rattle.fr_core.specs.declared.program.Item.TheVariants as item
 use Rattle.fr_core.specs.declared.program.Program.{Program}
 use Rattle.fr_meaning.specs.Words.{Seen, Env, First, Done, under}
 use Rattle.fr_meaning.specs.Cells.{child}
-use Rattle.fr_meaning.specs.Evaluation.{Ev, eval}
+use Rattle.fr_meaning.specs.Evaluation.{Ev, world_of, eval}
 
 -- the values of the inputs, where each that is set has its new one
 abbrev pub latest : List Input → List Value → List Entry → List Value
@@ -64,7 +64,7 @@ items ev env k i (item.Show name e ∷ is) = let d = ev e env (child k i) in joi
 
 -- the whole body, each item at nest 1
 abbrev pub body : Program → List Now → Kept → Evaluated
-body p sources k = items (eval (record { functions = p.functions; sources = sources }) 1) [] k 0 p.body
+body p sources k = items (eval (world_of p sources) 1) [] k 0 p.body
 
 -- all that one instant hands to the next: the values of the inputs, and what the body keeps
 pub record State : Type 0 where

@@ -1,9 +1,7 @@
 -- Evaluations that answer the same, whatever they keep.
-use Rattle.std.specs.Prelude.{ℕ, List, ◌≡◌}
-use Rattle.fr_value.specs.declared.now.Now.{Now}
+use Rattle.std.specs.Prelude.{ℕ, ◌≡◌}
 use Rattle.fr_core.specs.declared.core_form.Core.{Core}
 use Rattle.fr_core.specs.declared.kept.Kept.{Kept}
-use Rattle.fr_core.specs.declared.program.Program.{Program}
 use Rattle.fr_meaning.specs.Words.{Env, Done}
 use Rattle.fr_meaning.specs.Evaluation.{World, eval}
 
@@ -13,10 +11,10 @@ pub record Agree (a b : Done) : Type 0 where
   pub cost : a.cost ≡ b.cost
   pub first : a.first ≡ b.first
 
--- the functions of a program, where its sources have these values
-abbrev pub world_of : Program → List Now → World
-world_of p sources = record { functions = p.functions; sources = sources }
+-- an expression's evaluation is the same in two worlds, whatever is kept: at every nest and over every environment it answers the same over any two kept trees
+abbrev pub IsSteadyOver : World → World → Core → Type 0
+IsSteadyOver w w' e = (nest : ℕ) (env : Env) (k k' : Kept) → Agree (eval w nest e env k) (eval w' nest e env k')
 
--- an expression's evaluation doesn't depend on its kept tree: at every nest and over every environment it answers the same over any two
+-- an expression's evaluation doesn't depend on its kept tree
 abbrev pub IsSteady : World → Core → Type 0
-IsSteady w e = (nest : ℕ) (env : Env) (k k' : Kept) → Agree (eval w nest e env k) (eval w nest e env k')
+IsSteady w e = IsSteadyOver w w e

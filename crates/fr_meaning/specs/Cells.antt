@@ -1,5 +1,6 @@
--- Kept trees, by what a form reads from them: where a tree doesn't have the shape that is wanted, nothing was kept.
+-- Kept trees, by what a form reads from them. It is read level by level: where the tree that is met isn't the one that is wanted, what would stand there counts as Nothing.
 use Rattle.std.specs.Prelude.{ℕ, Bool, true, false, if◌then◌else◌, slice_get, unwrap_or, Option, Some, None}
+use Rattle.std.specs.Option.{option_map}
 use Rattle.fr_value.specs.declared.value.Value.{Value}
 use Rattle.fr_core.specs.declared.kept.Key.{Key}
 use Rattle.fr_core.specs.declared.kept.Key.TheVariants as key
@@ -47,6 +48,35 @@ behind_payload_at k = kept.Nothing
 unfoldable pub behind_payload : Kept → Kept
 behind_payload k = behind_payload_at (out-Kept k)
 
+-- what a form's cell holds
+pub data Cell : Type 0 where
+  datum : Value → Cell
+  payload : Option Value → Cell
+
+-- the kind of cell that a form has
+pub data CellKind : Type 0 where
+  keeps_none : CellKind
+  keeps_datum : CellKind
+  keeps_payload : CellKind
+
+-- a form's cell of this kind
+abbrev pub cell_in : CellKind → Kept → Option Cell
+cell_in keeps_none k = None
+cell_in keeps_datum k = option_map datum (datum_cell k)
+cell_in keeps_payload k = option_map payload (payload_cell k)
+
+-- what the parts of a form with a cell of this kind kept
+abbrev pub behind : CellKind → Kept → Kept
+behind keeps_none k = k
+behind keeps_datum k = behind_datum k
+behind keeps_payload k = behind_payload k
+
+-- a form's cell before what its parts keep
+abbrev pub with_cell : Option Cell → Kept → Kept
+with_cell None k = k
+with_cell (Some (datum v)) k = kept.Datum v k
+with_cell (Some (payload o)) k = kept.Payload o k
+
 abbrev pub same_test : Bool → Bool → Bool
 same_test true b = b
 same_test false true = false
@@ -63,14 +93,3 @@ under_key_at new k = kept.Nothing
 -- what the choice of a switch kept, where the switch chose by the same as now
 unfoldable pub under_key : Key → Kept → Kept
 under_key new k = under_key_at new (out-Kept k)
-
--- what a form's cell holds
-pub data Cell : Type 0 where
-  datum : Value → Cell
-  payload : Option Value → Cell
-
--- a form's cell before what its parts keep
-abbrev pub with_cell : Option Cell → Kept → Kept
-with_cell None k = k
-with_cell (Some (datum v)) k = kept.Datum v k
-with_cell (Some (payload o)) k = kept.Payload o k

@@ -1,8 +1,9 @@
--- What an evaluation depends on: the variables that an expression names, and the values that earlier items bind.
+-- What an evaluation depends on: the variables and the sources that an expression names, and the values that earlier items bind.
 use Rattle.std.specs.Prelude.{ℕ, ◌+◌, ◌≡◌, List, [], ◌∷◌, ◌++◌, slice_get}
 use Rattle.std.specs.Option.{option_or}
 use Rattle.fr_core.specs.declared.core_form.Core.{Core, fold-Core}
 use Rattle.fr_core.specs.declared.core_form.Core.TheOpen.{Core-F}
+use Rattle.fr_core.specs.Shapes.{parts_in}
 use Rattle.fr_core.specs.declared.kept.Kept.{Kept}
 use Rattle.fr_core.specs.declared.program.Item.{Item}
 use Rattle.fr_core.specs.declared.program.Item.TheVariants as item
@@ -16,37 +17,36 @@ abbrev pub joined : List (List ℕ) → List ℕ
 joined [] = []
 joined (ns ∷ rest) = ns ++ joined rest
 
+-- the variable that an expression itself is
+abbrev pub own_variable : {X : Type 0} → Core-F X → List ℕ
+own_variable (Core-F.Var x) = x.0 ∷ []
+own_variable f = []
+
 -- the variables that an expression names, from those that its parts name
 abbrev pub variables_step : Core-F (List ℕ) → List ℕ
-variables_step (Core-F.Lit v) = []
-variables_step (Core-F.Var x) = x.0 ∷ []
-variables_step (Core-F.Source s) = []
-variables_step (Core-F.Let es b) = joined es ++ b
-variables_step (Core-F.If a b c) = a ++ b ++ c
-variables_step (Core-F.Apply f es) = joined es
-variables_step (Core-F.PrimApp p es) = joined es
-variables_step (Core-F.Fold a b c) = a ++ b ++ c
-variables_step (Core-F.Repeat a b c) = a ++ b ++ c
-variables_step (Core-F.MapE a b) = a ++ b
-variables_step (Core-F.FilterE a b) = a ++ b
-variables_step (Core-F.MergeE es) = joined es
-variables_step (Core-F.Hold a b) = a ++ b
-variables_step (Core-F.CollectB a b c) = a ++ b ++ c
-variables_step (Core-F.CollectE a b c) = a ++ b ++ c
-variables_step (Core-F.Changes a) = a
-variables_step (Core-F.OnceE a) = a
-variables_step (Core-F.Delay a b) = a ++ b
-variables_step (Core-F.DelayE a) = a
-variables_step (Core-F.Feedback a b) = a ++ b
+variables_step f = own_variable f ++ joined (parts_in f)
 
 -- the variables that an expression names, those of its handlers and loops and those that it binds itself included
 unfoldable pub variables : Core → List ℕ
 variables = fold-Core (List ℕ) variables_step
 
--- each of these variables has the same value in both environments, or none in either
-abbrev pub AgreeAt : List ℕ → Env → Env → Type 0
-AgreeAt [] env other = Unit {0}
-AgreeAt (x ∷ xs) env other = (slice_get env x ≡ slice_get other x) × AgreeAt xs env other
+-- the source that an expression itself is
+abbrev pub own_source : {X : Type 0} → Core-F X → List ℕ
+own_source (Core-F.Source s) = s.0 ∷ []
+own_source f = []
+
+-- the sources that an expression names, from those that its parts name
+abbrev pub sources_step : Core-F (List ℕ) → List ℕ
+sources_step f = own_source f ++ joined (parts_in f)
+
+-- the sources that an expression names, those of its handlers and loops included
+unfoldable pub sources_of : Core → List ℕ
+sources_of = fold-Core (List ℕ) sources_step
+
+-- both lists have the same at each of these numbers, or neither has anything there
+abbrev pub AgreeAt : {X : Type 0} → List ℕ → List X → List X → Type 0
+AgreeAt [] xs others = Unit {0}
+AgreeAt (n ∷ ns) xs others = (slice_get xs n ≡ slice_get others n) × AgreeAt ns xs others
 
 -- parts that were evaluated, and then others
 abbrev pub parts_followed : Parts → Parts → Parts

@@ -1,5 +1,5 @@
 -- The evaluation of an expression, one level at a time.
-use Rattle.std.specs.Prelude.{ℕ, ◌+◌, ◌-◌, ◌==◌, nat_le, zero, suc, ℤ, pos, negsuc, Bool, true, false, if◌then◌else◌, List, [], ◌∷◌, ◌++◌, length, slice_get, Option, Some, None, Result, Ok, Err}
+use Rattle.std.specs.Prelude.{ℕ, ◌+◌, ◌-◌, ◌==◌, nat_le, zero, suc, ℤ, pos, negsuc, Bool, true, false, if◌then◌else◌, List, [], ◌∷◌, ◌++◌, map, length, replicate, slice_get, Option, Some, None, Result, Ok, Err}
 use Rattle.std.specs.Option.{option_or}
 use Rattle.fr_value.specs.Data.{value_of}
 use Rattle.fr_value.specs.declared.value.Datum.{Datum}
@@ -10,19 +10,26 @@ use Rattle.fr_value.specs.declared.now.Bad.{Bad}
 use Rattle.fr_value.specs.declared.now.Bad.TheVariants.{WrongType, Range, Arity, Deep}
 use Rattle.fr_core.specs.declared.core_form.Core.{Core, out-Core}
 use Rattle.fr_core.specs.declared.core_form.Core.TheOpen.{Core-F}
+use Rattle.fr_core.specs.declared.core_form.Loop.{Loop}
+use Rattle.fr_core.specs.declared.core_form.Loop.TheVariants as loop
+use Rattle.fr_core.specs.declared.kept.Key.{Key}
 use Rattle.fr_core.specs.declared.kept.Key.TheVariants as key
 use Rattle.fr_core.specs.declared.kept.Kept.{Kept}
 use Rattle.fr_core.specs.declared.kept.Kept.TheVariants as kept
 use Rattle.fr_core.specs.declared.program.Function.{Function}
-use Rattle.fr_meaning.specs.Words.{Seen, Env, First, Done, under, own, plain, test_of}
-use Rattle.fr_meaning.specs.Primitives.{applied}
-use Rattle.fr_meaning.specs.Cells.{child, datum_cell, payload_cell, behind_datum, behind_payload, under_key, with_cell}
-use Rattle.fr_meaning.specs.States.{Line, Call, map_e, filter_e, merge_e, hold, collect_b, collect_e, changes, once_e, delay, delay_e, fed, feedback}
+use Rattle.fr_core.specs.declared.program.Program.{Program}
+use Rattle.fr_meaning.specs.Words.{Seen, Env, First, Done, under, own, plain, found, part, on_ok, test_of}
+use Rattle.fr_meaning.specs.Cells.{Cell, child, cell_in, behind, under_key, with_cell}
+use Rattle.fr_meaning.specs.States.{Line, Call, StateForm, of_operator, of_handler, of_feedback, cell_kind, no_call, fed, state_now}
 
 -- what is the same for every part at an instant: the program's functions and the values of its sources
 pub record World : Type 0 where
   pub functions : List Function
   pub sources : List Now
+
+-- the functions of a program, where its sources have these values
+abbrev pub world_of : Program → List Now → World
+world_of p sources = record { functions = p.functions; sources = sources }
 
 -- an evaluation of parts, one level below, where these variables are in scope and this was kept
 abbrev pub Ev : Type 0
@@ -53,11 +60,6 @@ ended v k cost inner = record { value = v; kept = k; cost = cost; first = option
 abbrev pub leaf : Seen → Done
 leaf v = ended v kept.Nothing 0 None
 
--- what has no meaning in a program whose numbers are in scope
-abbrev pub found : Option Seen → Seen
-found None = Err Deep
-found (Some v) = v
-
 abbrev pub source_seen : Option Now → Seen
 source_seen None = Err Deep
 source_seen (Some n) = Ok n
@@ -74,19 +76,36 @@ after_parts n ps d = ended d.value (kept.Group (ps.kepts ++ d.kept ∷ [])) (ps.
 abbrev pub let_done : Ev → Env → Kept → ℕ → Parts → Core → Done
 let_done ev env k n ps body = after_parts n ps (ev body (env ++ ps.values) (child k n))
 
--- a test, and behind it the branch, which is part number n
-abbrev pub branch_done : Done → Bool → ℕ → Done → Done
-branch_done t test n d = ended d.value (kept.Group (t.kept ∷ kept.Switch (key.Test test) d.kept ∷ [])) (t.cost + d.cost) (option_or (under 0 t.first) (under n d.first))
+-- what a switch goes on with: the key that it chose by, and the number and the expression of the part that it chose
+pub record Choice : Type 0 where
+  pub key : Key
+  pub number : ℕ
+  pub expr : Core
+
+abbrev pub chosen_by : Core → Core → Bool → Choice
+chosen_by a b true = record { key = key.Test true; number = 1; expr = a }
+chosen_by a b false = record { key = key.Test false; number = 2; expr = b }
+
+-- what the value of the test chooses, or why that can't be told
+abbrev pub choose : Core → Core → Seen → Result Choice Bad
+choose a b v = on_ok (chosen_by a b) (test_of v)
+
+-- what the choice kept, where the switch chose by the same key before
+abbrev pub choice_kept : Kept → Choice → Kept
+choice_kept k c = under_key c.key (child k 1)
+
+-- a test, and behind it the choice
+abbrev pub choice_done : Done → Choice → Done → Done
+choice_done t c d = ended d.value (kept.Group (t.kept ∷ kept.Switch c.key d.kept ∷ [])) (t.cost + d.cost) (option_or (under 0 t.first) (under c.number d.first))
 
 -- a test that can't be told
 abbrev pub test_refused : Done → Bad → Done
 test_refused t b = ended (Err b) (kept.Group (t.kept ∷ kept.Nothing ∷ [])) t.cost (under 0 t.first)
 
--- the branch goes on with what was kept where the test is the same as before
-abbrev pub if_done : Ev → Env → Kept → Done → Result Bool Bad → Core → Core → Done
-if_done ev env k t (Err b) chosen other = test_refused t b
-if_done ev env k t (Ok true) chosen other = branch_done t true 1 (ev chosen env (under_key (key.Test true) (child k 1)))
-if_done ev env k t (Ok false) chosen other = branch_done t false 2 (ev other env (under_key (key.Test false) (child k 1)))
+-- the choice goes on with what was kept where the switch chose by the same before
+abbrev pub switch_done : Ev → Env → Kept → Done → Result Choice Bad → Done
+switch_done ev env k t (Err b) = test_refused t b
+switch_done ev env k t (Ok c) = choice_done t c (ev c.expr env (choice_kept k c))
 
 -- the body of a function that has so many parameters
 abbrev pub body_for : Option Function → ℕ → Option Core
@@ -112,15 +131,10 @@ turned t d rest = record { value = rest.value; cost = d.cost + 1 + rest.cost; fi
 abbrev pub no_turns : Seen → Turns
 no_turns v = record { value = v; cost = 0; first = None }
 
--- a turn for each item, from number t on
-abbrev pub fold_turns : (Seen → Seen → Done) → ℕ → Seen → List Datum → Turns
-fold_turns body t acc [] = no_turns acc
-fold_turns body t acc (d ∷ ds) = let r = body acc (plain (value_of d)) in turned t r (fold_turns body (t + 1) r.value ds)
-
--- so many turns, from number t on
-abbrev pub repeat_turns : (Seen → Done) → ℕ → Seen → ℕ → Turns
-repeat_turns body t acc zero = no_turns acc
-repeat_turns body t acc (suc n) = let r = body acc in turned t r (repeat_turns body (t + 1) r.value n)
+-- a turn for each of these values beside the accumulator, from number t on
+abbrev pub turns : (List Seen → Done) → ℕ → Seen → List (List Seen) → Turns
+turns body t acc [] = no_turns acc
+turns body t acc (vs ∷ rest) = let r = body (acc ∷ vs) in turned t r (turns body (t + 1) r.value rest)
 
 -- the list to go over, or why there is none
 abbrev pub list_in : Seen → Result (List Datum) Bad
@@ -138,27 +152,27 @@ count_in (Err b) = Err b
 count_in (Ok (Plain (value.Int n))) = turns_in n
 count_in (Ok n) = Err WrongType
 
-abbrev pub unless_refused : {X : Type 0} → (X → Turns) → Result X Bad → Turns
-unless_refused f (Err b) = no_turns (Err b)
-unless_refused f (Ok x) = f x
+-- for each turn of a loop over this list or count the values beside the accumulator, or why there is none
+abbrev pub rounds : Loop → Seen → Result (List (List Seen)) Bad
+rounds loop.Fold x = on_ok (map (λ d. plain (value_of d) ∷ [])) (list_in x)
+rounds loop.Repeat x = on_ok (λ n. replicate n []) (count_in x)
 
--- a loop's parts, and then its turns, in part number 2
-abbrev pub loop_done : Parts → Turns → Done
-loop_done ps ts = ended ts.value (kept.Group ps.kepts) (ps.cost + ts.cost) (option_or ps.first (under 2 ts.first))
+-- all turns, or why there is none
+abbrev pub all_turns : (List Seen → Done) → Seen → Result (List (List Seen)) Bad → Turns
+all_turns body acc (Err b) = no_turns (Err b)
+all_turns body acc (Ok rest) = turns body 0 acc rest
 
--- the value of part number i
-abbrev pub part : Parts → ℕ → Seen
-part ps i = found (slice_get ps.values i)
+-- a loop's parts, and then its turns, in part number n
+abbrev pub turns_done : ℕ → Parts → Turns → Done
+turns_done n ps ts = ended ts.value (kept.Group ps.kepts) (ps.cost + ts.cost) (option_or ps.first (under n ts.first))
 
 -- a body that is evaluated with further values, and for which nothing is kept
 abbrev pub body_with : Ev → Env → Core → List Seen → Done
 body_with ev env body args = ev body (env ++ args) kept.Nothing
 
-abbrev pub fold_done : Ev → Env → Core → Parts → Done
-fold_done ev env body ps = loop_done ps (unless_refused (fold_turns (λ acc x. body_with ev env body (acc ∷ x ∷ [])) 0 (part ps 0)) (list_in (part ps 1)))
-
-abbrev pub repeat_done : Ev → Env → Core → Parts → Done
-repeat_done ev env body ps = loop_done ps (unless_refused (repeat_turns (λ acc. body_with ev env body (acc ∷ [])) 0 (part ps 0)) (count_in (part ps 1)))
+-- the first accumulator and the list or count, and then the turns
+abbrev pub loop_done : Ev → Env → Loop → ℕ → Parts → Core → Done
+loop_done ev env l n ps body = turns_done n ps (all_turns (body_with ev env body) (part ps.values 0) (rounds l (part ps.values 1)))
 
 -- a handler's call, which costs 1; its body is part number n
 abbrev pub handler : Ev → Env → ℕ → Core → Call
@@ -177,34 +191,36 @@ line_done ps l = record {
   first = option_or ps.first (option_or l.inner (option_or (own l.value) (refusal_first l.refusal)));
 }
 
+-- a form's cell in what was kept, and what its parts kept
+abbrev pub form_cell : StateForm → Kept → Option Cell
+form_cell form k = cell_in (cell_kind form) k
+
+abbrev pub behind_cell : StateForm → Kept → Kept
+behind_cell form k = behind (cell_kind form) k
+
+-- the parts of a form of the table, and then its line
+abbrev pub state_done : Ev → Env → Kept → StateForm → List Core → Call → Done
+state_done ev env k form es call = let ps = parts ev env (behind_cell form k) 0 es in line_done ps (state_now form (form_cell form k) ps.values call)
+
 -- INIT, and then BODY with the form's name bound to the cell or to INIT's value
 abbrev pub feedback_done : Ev → Env → Kept → Done → Core → Done
 feedback_done ev env k init body =
-    let b = ev body (env ++ fed (datum_cell k) init.value ∷ []) (child (behind_datum k) 1) in
-    line_done (join_part 0 init (join_part 1 b no_parts)) (feedback (datum_cell k) init.value b.value)
+    let cell = form_cell of_feedback k in
+    let b = ev body (env ++ fed cell init.value ∷ []) (child (behind_cell of_feedback k) 1) in
+    line_done (join_part 0 init (join_part 1 b no_parts)) (state_now of_feedback cell (init.value ∷ b.value ∷ []) no_call)
 
--- one case for each form
+-- one case for each shape
 abbrev pub layer : World → Ev → Env → Kept → Core-F Core → Done
 layer w ev env k (Core-F.Lit v) = leaf (plain v)
 layer w ev env k (Core-F.Var x) = leaf (found (slice_get env x.0))
 layer w ev env k (Core-F.Source s) = leaf (source_seen (slice_get w.sources s.0))
 layer w ev env k (Core-F.Let es body) = let_done ev env k (length es) (parts ev env k 0 es) body
-layer w ev env k (Core-F.If test chosen other) = let t = ev test env (child k 0) in if_done ev env k t (test_of t.value) chosen other
+layer w ev env k (Core-F.If test a b) = let t = ev test env (child k 0) in switch_done ev env k t (choose a b t.value)
 layer w ev env k (Core-F.Apply f es) = call_done ev k (length es) (parts ev env k 0 es) (body_for (slice_get w.functions f.0) (length es))
-layer w ev env k (Core-F.PrimApp p es) = let ps = parts ev env k 0 es in parts_only (applied p ps.values) ps
-layer w ev env k (Core-F.Fold init list body) = fold_done ev env body (parts ev env k 0 (init ∷ list ∷ []))
-layer w ev env k (Core-F.Repeat init count body) = repeat_done ev env body (parts ev env k 0 (init ∷ count ∷ []))
-layer w ev env k (Core-F.MapE e body) = let ps = parts ev env k 0 (e ∷ []) in line_done ps (map_e (handler ev env 1 body) (part ps 0))
-layer w ev env k (Core-F.FilterE e body) = let ps = parts ev env k 0 (e ∷ []) in line_done ps (filter_e (handler ev env 1 body) (part ps 0))
-layer w ev env k (Core-F.MergeE es) = let ps = parts ev env k 0 es in line_done ps (merge_e ps.values)
-layer w ev env k (Core-F.Hold e init) = let ps = parts ev env (behind_datum k) 0 (e ∷ init ∷ []) in line_done ps (hold (datum_cell k) (part ps 0) (part ps 1))
-layer w ev env k (Core-F.CollectB e init body) = let ps = parts ev env (behind_datum k) 0 (e ∷ init ∷ []) in line_done ps (collect_b (datum_cell k) (handler ev env 2 body) (part ps 0) (part ps 1))
-layer w ev env k (Core-F.CollectE e init body) = let ps = parts ev env (behind_datum k) 0 (e ∷ init ∷ []) in line_done ps (collect_e (datum_cell k) (handler ev env 2 body) (part ps 0) (part ps 1))
-layer w ev env k (Core-F.Changes b) = let ps = parts ev env (behind_datum k) 0 (b ∷ []) in line_done ps (changes (datum_cell k) (part ps 0))
-layer w ev env k (Core-F.OnceE e) = let ps = parts ev env (behind_datum k) 0 (e ∷ []) in line_done ps (once_e (datum_cell k) (part ps 0))
-layer w ev env k (Core-F.Delay init b) = let ps = parts ev env (behind_datum k) 0 (init ∷ b ∷ []) in line_done ps (delay (datum_cell k) (part ps 0) (part ps 1))
-layer w ev env k (Core-F.DelayE e) = let ps = parts ev env (behind_payload k) 0 (e ∷ []) in line_done ps (delay_e (payload_cell k) (part ps 0))
-layer w ev env k (Core-F.Feedback init body) = feedback_done ev env k (ev init env (child (behind_datum k) 0)) body
+layer w ev env k (Core-F.Operator o es) = state_done ev env k (of_operator o) es no_call
+layer w ev env k (Core-F.Handler h es body) = state_done ev env k (of_handler h) es (handler ev env (length es) body)
+layer w ev env k (Core-F.Loop l es body) = loop_done ev env l (length es) (parts ev env k 0 es) body
+layer w ev env k (Core-F.Feedback init body) = feedback_done ev env k (ev init env (child (behind_cell of_feedback k) 0)) body
 
 -- beyond the last level nothing is evaluated
 abbrev pub deep : Done

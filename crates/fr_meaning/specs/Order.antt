@@ -1,22 +1,18 @@
 -- The order in which the places of an evaluation end, and which of them each place uses.
-use Rattle.std.specs.Prelude.{ℕ, ◌+◌, ◌-◌, ◌≡◌, ◌<◌, ◌⊎◌, zero, suc, Bool, true, false, List, [], ◌∷◌, ◌++◌, map, length, slice_get, Option, Some, None, Result, Ok, Err}
-use Rattle.fr_value.specs.Data.{value_of}
-use Rattle.fr_value.specs.declared.value.Datum.{Datum}
+use Rattle.std.specs.Prelude.{ℕ, ◌+◌, ◌-◌, ◌≡◌, ◌<◌, ◌⊎◌, zero, suc, List, [], ◌∷◌, ◌++◌, map, length, slice_get, Option, Some, None, Result, Ok, Err}
 use Rattle.fr_value.specs.declared.now.Bad.{Bad}
 use Rattle.fr_value.specs.declared.now.Now.{Now}
 use Rattle.fr_core.specs.declared.core_form.Core.{Core, out-Core}
 use Rattle.fr_core.specs.declared.core_form.Core.TheOpen.{Core-F}
-use Rattle.fr_core.specs.declared.kept.Key.TheVariants as key
 use Rattle.fr_core.specs.declared.kept.Kept.{Kept}
 use Rattle.fr_core.specs.declared.kept.Kept.TheVariants as kept
 use Rattle.fr_core.specs.declared.program.Item.{Item}
 use Rattle.fr_core.specs.declared.program.Item.TheVariants as item
 use Rattle.fr_core.specs.declared.program.Program.{Program}
-use Rattle.fr_meaning.specs.Words.{Seen, Env, Done, plain, test_of}
-use Rattle.fr_meaning.specs.Cells.{child, datum_cell, behind_datum, behind_payload, under_key}
-use Rattle.fr_meaning.specs.States.{Begun, known, asks, fed, keeps, stays, event_begin, collect_begin}
-use Rattle.fr_meaning.specs.Evaluation.{World, Ev, parts, part, body_for, body_with, list_in, count_in, eval_to, eval}
-use Rattle.fr_meaning.specs.Agreement.{world_of}
+use Rattle.fr_meaning.specs.Words.{Seen, Env, Done, part}
+use Rattle.fr_meaning.specs.Cells.{child}
+use Rattle.fr_meaning.specs.States.{Begun, known, asks, of_operator, of_handler, of_feedback, fed, handler_begin}
+use Rattle.fr_meaning.specs.Evaluation.{World, world_of, Ev, parts, Choice, choose, choice_kept, body_for, body_with, rounds, form_cell, behind_cell, eval_to, eval}
 
 -- one place ends before another: a part before what it is a part of, and of two parts of one expression, with all that is inside them, the one of the smaller number
 abbrev pub EndsBefore : List ℕ → List ℕ → Type 0
@@ -61,70 +57,71 @@ abbrev pub IsUsed : List ℕ → List Use → Type 0
 IsUsed place [] = ⊥
 IsUsed place (u ∷ us) = (u.value_at ≡ place) ⊎ IsUsed place us
 
+-- two scopes have the same places, and the same value at each place of which this holds
+abbrev pub AgreeWhere : (List ℕ → Type 0) → List Binding → List Binding → Type 0
+AgreeWhere U [] [] = Unit {0}
+AgreeWhere U (v ∷ scope) (o ∷ other) = (v.place ≡ o.place) × (U v.place → v.value ≡ o.value) × AgreeWhere U scope other
+AgreeWhere U scope other = ⊥
+
 -- two scopes have the same places, and the same value at each place that is used
 abbrev pub AgreeWhereUsed : List Use → List Binding → List Binding → Type 0
-AgreeWhereUsed us [] [] = Unit {0}
-AgreeWhereUsed us (v ∷ scope) (o ∷ other) = (v.place ≡ o.place) × (IsUsed v.place us → v.value ≡ o.value) × AgreeWhereUsed us scope other
-AgreeWhereUsed us scope other = ⊥
+AgreeWhereUsed us scope other = AgreeWhere (λ p. IsUsed p us) scope other
 
 -- the place of part number i
-abbrev pub inner : List ℕ → ℕ → List ℕ
-inner at i = at ++ i ∷ []
+abbrev pub part_at : List ℕ → ℕ → List ℕ
+part_at at i = at ++ i ∷ []
 
 -- a place uses the value of part number i
 abbrev pub uses_part : List ℕ → ℕ → Use
-uses_part at i = record { by = at; value_at = inner at i }
+uses_part at i = record { by = at; value_at = part_at at i }
 
 -- the parts from number i on, each of which the whole uses
 abbrev pub part_uses : Traces → List Binding → Kept → List ℕ → ℕ → List Core → List Use
 part_uses trace scope k at i [] = []
-part_uses trace scope k at i (e ∷ es) = uses_part at i ∷ trace e scope (child k i) (inner at i) ++ part_uses trace scope k at (i + 1) es
+part_uses trace scope k at i (e ∷ es) = uses_part at i ∷ trace e scope (child k i) (part_at at i) ++ part_uses trace scope k at (i + 1) es
 
--- values that the parts from number i on give
-abbrev pub given : List ℕ → ℕ → List Seen → List Binding
-given at i [] = []
-given at i (v ∷ vs) = record { value = v; place = inner at i } ∷ given at (i + 1) vs
+-- values that places give, the first of them the one of this number
+abbrev pub given : (ℕ → List ℕ) → ℕ → List Seen → List Binding
+given place i [] = []
+given place i (v ∷ vs) = record { value = v; place = place i } ∷ given place (i + 1) vs
+
+-- values that the parts give
+abbrev pub given_by_parts : List ℕ → List Seen → List Binding
+given_by_parts at vs = given (part_at at) 0 vs
 
 -- a variable uses the place that gives it
 abbrev pub variable_uses : List ℕ → Option Binding → List Use
 variable_uses at None = []
 variable_uses at (Some v) = record { by = at; value_at = v.place } ∷ []
 
--- a branch is evaluated by the test, which is part number 0, and the whole uses it
-abbrev pub branch_uses : List ℕ → ℕ → List Use → List Use
-branch_uses at n inside = record { by = inner at n; value_at = inner at 0 } ∷ uses_part at n ∷ inside
-
-abbrev pub if_uses : Traces → List Binding → Kept → List ℕ → Result Bool Bad → Core → Core → List Use
-if_uses trace scope k at (Err b) chosen other = []
-if_uses trace scope k at (Ok true) chosen other = branch_uses at 1 (trace chosen scope (under_key (key.Test true) (child k 1)) (inner at 1))
-if_uses trace scope k at (Ok false) chosen other = branch_uses at 2 (trace other scope (under_key (key.Test false) (child k 1)) (inner at 2))
+-- the choice of a switch is evaluated by the test, which is part number 0, and the whole uses it
+abbrev pub switch_uses : Traces → List Binding → Kept → List ℕ → Result Choice Bad → List Use
+switch_uses trace scope k at (Err b) = []
+switch_uses trace scope k at (Ok c) = record { by = part_at at c.number; value_at = part_at at 0 } ∷ uses_part at c.number ∷ trace c.expr scope (choice_kept k c) (part_at at c.number)
 
 -- a function's body is in the scope of its arguments alone
 abbrev pub call_uses : Traces → Kept → List ℕ → ℕ → List Seen → Option Core → List Use
 call_uses trace k at n values None = []
-call_uses trace k at n values (Some body) = uses_part at n ∷ trace body (given at 0 values) (child k n) (inner at n)
+call_uses trace k at n values (Some body) = uses_part at n ∷ trace body (given_by_parts at values) (child k n) (part_at at n)
 
--- the place of turn number t of a loop
-abbrev pub turn_at : List ℕ → ℕ → List ℕ
-turn_at at t = inner (inner at 2) t
+-- the place of turn number t of a loop, in part number n
+abbrev pub turn_at : List ℕ → ℕ → ℕ → List ℕ
+turn_at at n t = part_at (part_at at n) t
 
 -- a turn is made by the list or the count, which is part number 1, and the loop uses it
-abbrev pub turn_uses : List ℕ → ℕ → List Use → List Use
-turn_uses at t inside = record { by = turn_at at t; value_at = inner at 1 } ∷ record { by = at; value_at = turn_at at t } ∷ inside
+abbrev pub turn_uses : List ℕ → ℕ → ℕ → List Use → List Use
+turn_uses at n t inside = record { by = turn_at at n t; value_at = part_at at 1 } ∷ record { by = at; value_at = turn_at at n t } ∷ inside
 
--- the turns from number t on, one for each item: the accumulator is given by the first part or by the turn before, the item by the list
-abbrev pub fold_uses : (Seen → Seen → Done) → (List Binding → List ℕ → List Use) → List ℕ → ℕ → Binding → List Datum → List Use
-fold_uses body trace at t acc [] = []
-fold_uses body trace at t acc (d ∷ ds) =
-    turn_uses at t (trace (acc ∷ record { value = plain (value_of d); place = inner at 1 } ∷ []) (turn_at at t))
-    ++ fold_uses body trace at (t + 1) (record { value = (body acc.value (plain (value_of d))).value; place = turn_at at t }) ds
+-- the variables of a turn: the accumulator, and what the list gives
+abbrev pub turn_scope : List ℕ → Binding → List Seen → List Binding
+turn_scope at acc vs = acc ∷ given (λ i. part_at at 1) 0 vs
 
--- so many turns from number t on: the accumulator is given by the first part or by the turn before
-abbrev pub repeat_uses : (Seen → Done) → (List Binding → List ℕ → List Use) → List ℕ → ℕ → Binding → ℕ → List Use
-repeat_uses body trace at t acc zero = []
-repeat_uses body trace at t acc (suc n) =
-    turn_uses at t (trace (acc ∷ []) (turn_at at t))
-    ++ repeat_uses body trace at (t + 1) (record { value = (body acc.value).value; place = turn_at at t }) n
+-- the turns from number t on: the accumulator is given by the first part or by the turn before
+abbrev pub loop_uses : (List Seen → Done) → (List Binding → List ℕ → List Use) → List ℕ → ℕ → ℕ → Binding → List (List Seen) → List Use
+loop_uses body trace at n t acc [] = []
+loop_uses body trace at n t acc (vs ∷ rest) =
+    turn_uses at n t (trace (turn_scope at acc vs) (turn_at at n t))
+    ++ loop_uses body trace at n (t + 1) (record { value = (body (acc.value ∷ vs)).value; place = turn_at at n t }) rest
 
 -- a loop whose list or count can't be told has no turns
 abbrev pub unless_bad : {X : Type 0} → (X → List Use) → Result X Bad → List Use
@@ -138,50 +135,34 @@ body_uses_with trace scope body more at = trace body (scope ++ more) kept.Nothin
 -- a place is evaluated by each of so many parts from number i on
 abbrev pub waits : List ℕ → ℕ → ℕ → ℕ → List Use
 waits at n i zero = []
-waits at n i (suc more) = record { by = inner at n; value_at = inner at i } ∷ waits at n (i + 1) more
+waits at n i (suc more) = record { by = part_at at n; value_at = part_at at i } ∷ waits at n (i + 1) more
 
 -- a handler, which is part number n, is called by the parts before it, which give its arguments, and the whole uses it
 abbrev pub handler_uses : (List Binding → List ℕ → List Use) → List ℕ → ℕ → Begun → List Use
 handler_uses trace at n (known l) = []
-handler_uses trace at n (asks args) = waits at n 0 n ++ uses_part at n ∷ trace (given at 0 args) (inner at n)
+handler_uses trace at n (asks args) = waits at n 0 n ++ uses_part at n ∷ trace (given_by_parts at args) (part_at at n)
 
--- one case for each form
+-- one case for each shape
 abbrev pub layer_uses : World → Ev → Traces → List Binding → Kept → List ℕ → Core-F Core → List Use
 layer_uses w ev trace scope k at (Core-F.Lit v) = []
 layer_uses w ev trace scope k at (Core-F.Var x) = variable_uses at (slice_get scope x.0)
 layer_uses w ev trace scope k at (Core-F.Source s) = []
-layer_uses w ev trace scope k at (Core-F.Let es body) =
-    part_uses trace scope k at 0 es ++ uses_part at (length es) ∷ trace body (scope ++ given at 0 (parts ev (env_of scope) k 0 es).values) (child k (length es)) (inner at (length es))
-layer_uses w ev trace scope k at (Core-F.If test chosen other) =
-    part_uses trace scope k at 0 (test ∷ []) ++ if_uses trace scope k at (test_of (ev test (env_of scope) (child k 0)).value) chosen other
+layer_uses w ev trace scope k at (Core-F.Let es body) = let n = length es in
+    part_uses trace scope k at 0 es ++ uses_part at n ∷ trace body (scope ++ given_by_parts at (parts ev (env_of scope) k 0 es).values) (child k n) (part_at at n)
+layer_uses w ev trace scope k at (Core-F.If test a b) =
+    part_uses trace scope k at 0 (test ∷ []) ++ switch_uses trace scope k at (choose a b (ev test (env_of scope) (child k 0)).value)
 layer_uses w ev trace scope k at (Core-F.Apply f es) =
     part_uses trace scope k at 0 es ++ call_uses trace k at (length es) (parts ev (env_of scope) k 0 es).values (body_for (slice_get w.functions f.0) (length es))
-layer_uses w ev trace scope k at (Core-F.PrimApp p es) = part_uses trace scope k at 0 es
-layer_uses w ev trace scope k at (Core-F.Fold init list body) = let ps = parts ev (env_of scope) k 0 (init ∷ list ∷ []) in
-    part_uses trace scope k at 0 (init ∷ list ∷ [])
-    ++ unless_bad (fold_uses (λ acc x. body_with ev (env_of scope) body (acc ∷ x ∷ [])) (body_uses_with trace scope body) at 0 (record { value = part ps 0; place = inner at 0 })) (list_in (part ps 1))
-layer_uses w ev trace scope k at (Core-F.Repeat init count body) = let ps = parts ev (env_of scope) k 0 (init ∷ count ∷ []) in
-    part_uses trace scope k at 0 (init ∷ count ∷ [])
-    ++ unless_bad (repeat_uses (λ acc. body_with ev (env_of scope) body (acc ∷ [])) (body_uses_with trace scope body) at 0 (record { value = part ps 0; place = inner at 0 })) (count_in (part ps 1))
-layer_uses w ev trace scope k at (Core-F.MapE e body) =
-    part_uses trace scope k at 0 (e ∷ []) ++ handler_uses (body_uses_with trace scope body) at 1 (event_begin (part (parts ev (env_of scope) k 0 (e ∷ [])) 0))
-layer_uses w ev trace scope k at (Core-F.FilterE e body) =
-    part_uses trace scope k at 0 (e ∷ []) ++ handler_uses (body_uses_with trace scope body) at 1 (event_begin (part (parts ev (env_of scope) k 0 (e ∷ [])) 0))
-layer_uses w ev trace scope k at (Core-F.MergeE es) = part_uses trace scope k at 0 es
-layer_uses w ev trace scope k at (Core-F.Hold e init) = part_uses trace scope (behind_datum k) at 0 (e ∷ init ∷ [])
-layer_uses w ev trace scope k at (Core-F.CollectB e init body) = let ps = parts ev (env_of scope) (behind_datum k) 0 (e ∷ init ∷ []) in
-    part_uses trace scope (behind_datum k) at 0 (e ∷ init ∷ [])
-    ++ handler_uses (body_uses_with trace scope body) at 2 (collect_begin keeps (datum_cell k) (part ps 0) (part ps 1))
-layer_uses w ev trace scope k at (Core-F.CollectE e init body) = let ps = parts ev (env_of scope) (behind_datum k) 0 (e ∷ init ∷ []) in
-    part_uses trace scope (behind_datum k) at 0 (e ∷ init ∷ [])
-    ++ handler_uses (body_uses_with trace scope body) at 2 (collect_begin stays (datum_cell k) (part ps 0) (part ps 1))
-layer_uses w ev trace scope k at (Core-F.Changes b) = part_uses trace scope (behind_datum k) at 0 (b ∷ [])
-layer_uses w ev trace scope k at (Core-F.OnceE e) = part_uses trace scope (behind_datum k) at 0 (e ∷ [])
-layer_uses w ev trace scope k at (Core-F.Delay init b) = part_uses trace scope (behind_datum k) at 0 (init ∷ b ∷ [])
-layer_uses w ev trace scope k at (Core-F.DelayE e) = part_uses trace scope (behind_payload k) at 0 (e ∷ [])
-layer_uses w ev trace scope k at (Core-F.Feedback init body) = let i = ev init (env_of scope) (child (behind_datum k) 0) in
-    part_uses trace scope (behind_datum k) at 0 (init ∷ [])
-    ++ uses_part at 1 ∷ trace body (scope ++ record { value = fed (datum_cell k) i.value; place = inner at 0 } ∷ []) (child (behind_datum k) 1) (inner at 1)
+layer_uses w ev trace scope k at (Core-F.Operator o es) = part_uses trace scope (behind_cell (of_operator o) k) at 0 es
+layer_uses w ev trace scope k at (Core-F.Handler h es body) = let inside = behind_cell (of_handler h) k in
+    part_uses trace scope inside at 0 es
+    ++ handler_uses (body_uses_with trace scope body) at (length es) (handler_begin h (form_cell (of_handler h) k) (parts ev (env_of scope) inside 0 es).values)
+layer_uses w ev trace scope k at (Core-F.Loop l es body) = let vs = (parts ev (env_of scope) k 0 es).values in
+    part_uses trace scope k at 0 es
+    ++ unless_bad (loop_uses (body_with ev (env_of scope) body) (body_uses_with trace scope body) at (length es) 0 (record { value = part vs 0; place = part_at at 0 })) (rounds l (part vs 1))
+layer_uses w ev trace scope k at (Core-F.Feedback init body) = let inside = behind_cell of_feedback k in
+    part_uses trace scope inside at 0 (init ∷ [])
+    ++ uses_part at 1 ∷ trace body (scope ++ record { value = fed (form_cell of_feedback k) (ev init (env_of scope) (child inside 0)).value; place = part_at at 0 } ∷ []) (child inside 1) (part_at at 1)
 
 -- what the places of an evaluation use, to a number of nested levels
 unfoldable pub uses_to : ℕ → World → Traces

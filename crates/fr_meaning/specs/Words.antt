@@ -1,9 +1,9 @@
 -- What an evaluation answers.
-use Rattle.std.specs.Prelude.{ℕ, List, [], ◌∷◌, Bool, Option, Some, None, Result, Ok, Err}
+use Rattle.std.specs.Prelude.{ℕ, List, [], ◌∷◌, Bool, slice_get, Option, Some, None, Result, Ok, Err}
 use Rattle.fr_value.specs.declared.now.Now.{Now}
 use Rattle.fr_value.specs.declared.now.Now.TheVariants.{Plain, Occ}
 use Rattle.fr_value.specs.declared.now.Bad.{Bad}
-use Rattle.fr_value.specs.declared.now.Bad.TheVariants.{WrongType, NotData, NotEvent}
+use Rattle.fr_value.specs.declared.now.Bad.TheVariants.{WrongType, NotData, NotEvent, Deep}
 use Rattle.fr_value.specs.declared.value.Value.{Value}
 use Rattle.fr_prims.specs.Data.{is_true}
 use Rattle.fr_core.specs.declared.kept.Kept.{Kept}
@@ -44,6 +44,20 @@ plain v = Ok (Plain v)
 -- an event that occurs with this payload, or doesn't occur
 abbrev pub occurs : Option Value → Seen
 occurs o = Ok (Occ o)
+
+-- what has no meaning in a program whose numbers are in scope, and whose forms have their parts
+abbrev pub found : Option Seen → Seen
+found None = Err Deep
+found (Some v) = v
+
+-- the value of part number i
+abbrev pub part : List Seen → ℕ → Seen
+part vs i = found (slice_get vs i)
+
+-- what a function makes of what there is; where there is none, why
+abbrev pub on_ok : {X Y : Type 0} → (X → Y) → Result X Bad → Result Y Bad
+on_ok f (Err b) = Err b
+on_ok f (Ok x) = Ok (f x)
 
 -- an event's state, or why there is none
 abbrev pub event_of : Seen → Result (Option Value) Bad
