@@ -228,6 +228,7 @@ impl Value {
     #[tactic(auto, using(crate::proofs::Validity::valid_of))]
     pub fn size(&self) -> u64
         ensures value { result ≡ value_size self.now }
+        ensures small { result ≤ 1048576 }
         ensures valid { is_valid (datum_of self.now) ≡ true }
     {
         match self {
