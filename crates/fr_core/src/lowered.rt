@@ -1,5 +1,5 @@
 use crate::program::{Event, Input};
-use fr_value::{FunId, KernId, Name, Primitive, SiteId, SrcId, Value, VarId};
+use fr_value::{FunId, KernId, Primitive, SiteId, SrcId, Symbol, Value, VarId};
 use sqlite_items::{Boxed, Items};
 
 /// What a kernel reads from its place.
@@ -64,7 +64,7 @@ pub enum Low {
 /// A global function. Its parameters are the variables from 0 on.
 #[derive(Drop)]
 pub struct LowFunction {
-    pub name: Name,
+    pub name: Symbol,
     /// The number of its parameters.
     pub params: u32,
     pub body: Low,
@@ -76,7 +76,7 @@ pub enum LowItem {
     /// A value, which binds one variable for the items behind it.
     Define(Low),
     /// A displayed value and its name.
-    Show(Name, Low),
+    Show(Symbol, Low),
 }
 
 /// A program whose pure parts are kernels. Each site's number stands at one place only.

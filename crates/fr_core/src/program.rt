@@ -1,5 +1,5 @@
 use crate::core_form::Core;
-use fr_value::{Name, SrcId, Value};
+use fr_value::{SrcId, Symbol, Value};
 use sqlite_items::Items;
 
 /// A behaviour that the script sets.
@@ -7,7 +7,7 @@ use sqlite_items::Items;
 pub struct Input {
     /// Its number among the sources.
     pub source: SrcId,
-    pub name: Name,
+    pub name: Symbol,
     /// Its value before it is set.
     pub first: Value,
 }
@@ -17,13 +17,13 @@ pub struct Input {
 pub struct Event {
     /// Its number among the sources.
     pub source: SrcId,
-    pub name: Name,
+    pub name: Symbol,
 }
 
 /// A global function. Its parameters are the variables from 0 on.
 #[derive(Drop)]
 pub struct Function {
-    pub name: Name,
+    pub name: Symbol,
     /// The number of its parameters.
     pub params: u32,
     pub body: Core,
@@ -35,7 +35,7 @@ pub enum Item {
     /// A value, which binds one variable for the items behind it.
     Define(Core),
     /// A displayed value and its name.
-    Show(Name, Core),
+    Show(Symbol, Core),
 }
 
 /// A program. Its sources are `now`, of number 0, its inputs and its events. Its items are evaluated in their order.

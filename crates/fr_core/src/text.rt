@@ -1,7 +1,7 @@
 use crate::core_form::Core;
 use crate::program::{Event, Function, Input, Item, Program};
 use crate::words::{core_word, prim_word};
-use fr_value::{Name, Value, text_into};
+use fr_value::{Symbol, Value, text_into};
 use itoa::Buffer;
 use std::alloc::{AllocError, Global};
 
@@ -16,7 +16,7 @@ fn number_into(out: &mut Vec<u8>, number: u32) -> Result<(), AllocError> {
 }
 
 /// A space and a name.
-fn name_into(out: &mut Vec<u8>, name: &Name) -> Result<(), AllocError> {
+fn name_into(out: &mut Vec<u8>, name: &Symbol) -> Result<(), AllocError> {
     out.push(b' ')?;
     word_into(out, name.as_str())
 }

@@ -6,14 +6,14 @@ ghost use Rattle.fr_engine.specs.Nodes.{number_at as number_there};
 ghost use Rattle.fr_engine.specs.Shows.{any_none, root_number, root_text, roots_text, next_root};
 
 use crate::nodes::number_at;
-use fr_value::Name;
+use fr_value::Symbol;
 use itoa::Buffer;
 use std::alloc::{AllocError, Global};
 
 /// A show: its name, the place of its value, and the last number that it had.
 #[derive(Drop)]
 pub struct Root {
-    pub name: Name,
+    pub name: Symbol,
     pub node: usize,
     pub last: Option<i64>,
 }
@@ -38,7 +38,7 @@ fn same_text(a: i64, b: i64) -> bool
     one.format(a).as_bytes() == other.format(b).as_bytes()
 }
 
-fn push_line(text: &mut Vec<u8>, time: u64, name: &Name, number: i64) -> Result<(), AllocError>
+fn push_line(text: &mut Vec<u8>, time: u64, name: &Symbol, number: i64) -> Result<(), AllocError>
     ensures { OnOk result (text.new.items ≡ text.old.items ++ line time name.now (signed_decimal number)) }
 {
     let mut buffer = Buffer::new();

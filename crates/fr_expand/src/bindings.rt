@@ -5,19 +5,19 @@ ghost use Rattle.fr_expand.specs.Faults.{is_keyword, any_keyword, any_twice, bin
 use crate::faults::Faults;
 use fr_scope::Scope;
 use fr_syntax::keyword_named;
-use fr_value::Name;
+use fr_value::Symbol;
 use std::alloc::{AllocError, Global};
 use std::collections::BTreeSet;
 
 /// Whether a name is a keyword.
-pub(crate) fn is_keyword(name: &Name) -> bool
+pub(crate) fn is_keyword(name: &Symbol) -> bool
     ensures { result ≡ is_keyword name.now }
 {
     keyword_named(name.as_str()).is_some()
 }
 
 /// Whether one of these names is a keyword.
-fn any_keyword(names: &[Name]) -> bool
+fn any_keyword(names: &[Symbol]) -> bool
     ensures { result ≡ any_keyword names.now }
 {
     for name in names {
@@ -29,7 +29,7 @@ fn any_keyword(names: &[Name]) -> bool
 }
 
 /// Whether a name stands twice. It takes no time but the sorting of the names.
-fn any_twice(alloc: Global, names: &[Name]) -> Result<bool, AllocError>
+fn any_twice(alloc: Global, names: &[Symbol]) -> Result<bool, AllocError>
     ensures { IfOk result (λ b. b ≡ any_twice names.now) }
 {
     let mut seen = BTreeSet::new(alloc);
@@ -42,7 +42,7 @@ fn any_twice(alloc: Global, names: &[Name]) -> Result<bool, AllocError>
 }
 
 /// What is wrong with names that are bound together.
-pub(crate) fn binding_faults(alloc: Global, names: &[Name]) -> Result<Faults, AllocError>
+pub(crate) fn binding_faults(alloc: Global, names: &[Symbol]) -> Result<Faults, AllocError>
     ensures { IfOk result (λ f. f ≡ binding_faults names.now) }
 {
     Ok(Faults {
@@ -53,7 +53,7 @@ pub(crate) fn binding_faults(alloc: Global, names: &[Name]) -> Result<Faults, Al
 }
 
 /// What is wrong with names that are bound one after the other.
-pub(crate) fn chain_faults(names: &[Name]) -> Faults
+pub(crate) fn chain_faults(names: &[Symbol]) -> Faults
     ensures { result ≡ chain_faults names.now }
 {
     Faults {
@@ -64,7 +64,7 @@ pub(crate) fn chain_faults(names: &[Name]) -> Faults
 }
 
 /// What is wrong with a name that is bound alone.
-pub(crate) fn binding_faults_of_one(name: &Name) -> Faults
+pub(crate) fn binding_faults_of_one(name: &Symbol) -> Faults
     ensures { result ≡ binding_faults (name.now ∷ []) }
 {
     Faults {
@@ -75,7 +75,7 @@ pub(crate) fn binding_faults_of_one(name: &Name) -> Faults
 }
 
 /// What is wrong with two names that are bound together.
-pub(crate) fn binding_faults_of_two(first: &Name, second: &Name) -> Faults
+pub(crate) fn binding_faults_of_two(first: &Symbol, second: &Symbol) -> Faults
     ensures { result ≡ binding_faults (first.now ∷ second.now ∷ []) }
 {
     Faults {
@@ -85,14 +85,14 @@ pub(crate) fn binding_faults_of_two(first: &Name, second: &Name) -> Faults
     }
 }
 
-fn is_same(a: &Name, b: &Name) -> bool
+fn is_same(a: &Symbol, b: &Symbol) -> bool
     ensures { result ≡ bytes_eq a.now b.now }
 {
     a.same(b)
 }
 
 /// One more variable for each of these names, the last one innermost.
-pub(crate) fn bind_all(scope: &mut Scope, names: &[Name]) -> Result<(), AllocError>
+pub(crate) fn bind_all(scope: &mut Scope, names: &[Symbol]) -> Result<(), AllocError>
     requires { length scope.old + length names.now ≤ 4294967295 }
     ensures { OnOk result (scope.new ≡ scope.old ++ named names.now) }
 {

@@ -12,7 +12,7 @@ use crate::translation::core_in;
 use fr_core::{Event, Function, Input, Item, Program};
 use fr_scope::{Globals, Scope};
 use fr_syntax::{Expr, Form};
-use fr_value::{Name, SrcId};
+use fr_value::{SrcId, Symbol};
 use sqlite_items::Items;
 use std::alloc::{AllocError, Global};
 
@@ -93,8 +93,8 @@ fn functions_in(
 fn function_of(
     alloc: Global,
     globals: &Globals,
-    name: &Name,
-    params: &[Name],
+    name: &Symbol,
+    params: &[Symbol],
     body: &Expr,
 ) -> Result<Function, AllocError>
     requires { length params.now + weight body.now ≤ 4294967295 }

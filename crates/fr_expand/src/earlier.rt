@@ -10,7 +10,7 @@ use crate::name_set::NameSet;
 use fr_prims::prim_named;
 use fr_scope::{Globals, Scope};
 use fr_syntax::{Expr, Form, keyword_named};
-use fr_value::Name;
+use fr_value::Symbol;
 use std::alloc::{AllocError, Global};
 
 /// The names that earlier forms gave.
@@ -39,7 +39,7 @@ impl<'a> EarlierNames<'a> {
     }
 
     /// What is wrong with a name that a form defines.
-    fn definition_faults(&self, name: &Name) -> Faults
+    fn definition_faults(&self, name: &Symbol) -> Faults
         ensures { result ≡ definition_faults (earlier_of self.now) name.now }
     {
         Faults {
@@ -50,7 +50,7 @@ impl<'a> EarlierNames<'a> {
     }
 
     /// What is wrong with the name of a show.
-    fn show_faults(&self, name: &Name) -> Faults
+    fn show_faults(&self, name: &Symbol) -> Faults
         ensures { result ≡ show_faults (earlier_of self.now) name.now }
     {
         Faults {
@@ -113,7 +113,7 @@ impl<'a> EarlierNames<'a> {
 }
 
 /// Whether a name may not be defined at top level: it is a keyword, a primitive's name, or `now`.
-fn is_reserved(name: &Name) -> bool
+fn is_reserved(name: &Symbol) -> bool
     ensures { result ≡ is_reserved name.now }
 {
     let text = name.as_str();
@@ -124,7 +124,7 @@ fn is_reserved(name: &Name) -> bool
 fn body_faults(
     alloc: Global,
     globals: &Globals,
-    params: &[Name],
+    params: &[Symbol],
     body: &Expr,
 ) -> Result<Faults, AllocError>
     requires { length params.now + weight body.now ≤ 4294967295 }

@@ -10,7 +10,7 @@ use crate::bindings::{
 };
 use fr_scope::{Globals, Meaning, Scope};
 use fr_syntax::Expr;
-use fr_value::Name;
+use fr_value::Symbol;
 use std::alloc::{AllocError, Global};
 
 /// What is wrong with the names of an expression or of a form.
@@ -96,7 +96,7 @@ fn callee_fault(meaning: Option<Meaning>) -> Faults
 }
 
 /// What is wrong with a name that stands for a value.
-fn name_faults(globals: &Globals, scope: &Scope, name: &Name) -> Faults
+fn name_faults(globals: &Globals, scope: &Scope, name: &Symbol) -> Faults
     ensures { result ≡ unless_keyword (is_keyword name.now) (value_fault (meaning_of globals.now scope.now name.now)) }
 {
     if is_keyword(name) {
@@ -236,7 +236,7 @@ fn faults_in_call(
     alloc: Global,
     globals: &Globals,
     scope: &mut Scope,
-    callee: &Name,
+    callee: &Symbol,
     parts: &[Expr],
 ) -> Result<Faults, AllocError>
     requires { length scope.old + total (map weight parts.now) ≤ 4294967295 }
@@ -253,7 +253,7 @@ fn faults_in_let(
     alloc: Global,
     globals: &Globals,
     scope: &mut Scope,
-    names: &[Name],
+    names: &[Symbol],
     parts: &[Expr],
     body: &Expr,
 ) -> Result<Faults, AllocError>
@@ -274,7 +274,7 @@ fn faults_under_all(
     alloc: Global,
     globals: &Globals,
     scope: &mut Scope,
-    names: &[Name],
+    names: &[Symbol],
     body: &Expr,
 ) -> Result<Faults, AllocError>
     requires { length scope.old + length names.now + weight body.now ≤ 4294967295 }
@@ -294,7 +294,7 @@ fn faults_in_chain(
     alloc: Global,
     globals: &Globals,
     scope: &mut Scope,
-    names: &[Name],
+    names: &[Symbol],
     parts: &[Expr],
     body: &Expr,
 ) -> Result<Faults, AllocError>
@@ -340,7 +340,7 @@ fn faults_under_one(
     alloc: Global,
     globals: &Globals,
     scope: &mut Scope,
-    name: &Name,
+    name: &Symbol,
     body: &Expr,
 ) -> Result<Faults, AllocError>
     requires { length scope.old + 1 + weight body.now ≤ 4294967295 }
@@ -361,8 +361,8 @@ fn faults_under_two(
     alloc: Global,
     globals: &Globals,
     scope: &mut Scope,
-    first: &Name,
-    second: &Name,
+    first: &Symbol,
+    second: &Symbol,
     body: &Expr,
 ) -> Result<Faults, AllocError>
     requires { length scope.old + 2 + weight body.now ≤ 4294967295 }

@@ -1,7 +1,7 @@
 ghost use Rattle.std.specs.Prelude.{◌≡◌, ◌∷◌, ◌++◌, [], false, OnOk};
 ghost use Rattle.fr_expand.specs.Faults.{is_among};
 
-use fr_value::Name;
+use fr_value::Symbol;
 use indexmap::IndexSet;
 use std::alloc::{AllocError, Global};
 use std::marker::Model;
@@ -31,14 +31,14 @@ impl<'a> NameSet<'a> {
     }
 
     /// Whether the name is among these. It takes no memory, and no time in their number.
-    pub(crate) fn has(&self, name: &Name) -> bool
+    pub(crate) fn has(&self, name: &Symbol) -> bool
         ensures { result ≡ is_among name.now self.now }
     {
         self.names.contains(name.as_str())
     }
 
     /// One more name, the last.
-    pub(crate) fn add(&mut self, name: &'a Name) -> Result<(), AllocError>
+    pub(crate) fn add(&mut self, name: &'a Symbol) -> Result<(), AllocError>
         requires { is_among name.now self.old ≡ false }
         ensures { OnOk result (self.new ≡ self.old ++ name.now ∷ []) }
     {

@@ -10,7 +10,7 @@ use crate::cores::{bound, call_core, conditional, given_or, truth, value_core};
 use fr_core::Core;
 use fr_scope::{Globals, Scope};
 use fr_syntax::Expr;
-use fr_value::{Name, VarId};
+use fr_value::{Symbol, VarId};
 use sqlite_items::{Boxed, Items};
 use std::alloc::{AllocError, Global};
 
@@ -191,7 +191,7 @@ fn core_under_one(
     alloc: Global,
     globals: &Globals,
     scope: &mut Scope,
-    name: &Name,
+    name: &Symbol,
     body: &Expr,
 ) -> Result<Boxed<Core>, AllocError>
     requires { length scope.old + 1 + weight body.now ≤ 4294967295 }
@@ -211,8 +211,8 @@ fn core_under_two(
     alloc: Global,
     globals: &Globals,
     scope: &mut Scope,
-    first: &Name,
-    second: &Name,
+    first: &Symbol,
+    second: &Symbol,
     body: &Expr,
 ) -> Result<Boxed<Core>, AllocError>
     requires { length scope.old + 2 + weight body.now ≤ 4294967295 }
@@ -233,7 +233,7 @@ fn core_under_all(
     alloc: Global,
     globals: &Globals,
     scope: &mut Scope,
-    names: &[Name],
+    names: &[Symbol],
     body: &Expr,
 ) -> Result<Boxed<Core>, AllocError>
     requires { length scope.old + length names.now + weight body.now ≤ 4294967295 }
@@ -254,7 +254,7 @@ fn part_and_body(
     globals: &Globals,
     scope: &mut Scope,
     part: &Expr,
-    name: &Name,
+    name: &Symbol,
     body: &Expr,
 ) -> Result<(Boxed<Core>, Boxed<Core>), AllocError>
     requires { length scope.old + 1 + weight part.now + weight body.now ≤ 4294967295 }
@@ -272,7 +272,7 @@ fn chained_core(
     alloc: Global,
     globals: &Globals,
     scope: &mut Scope,
-    names: &[Name],
+    names: &[Symbol],
     parts: &[Expr],
     body: &Expr,
 ) -> Result<Core, AllocError>

@@ -11,7 +11,7 @@ ghost use Rattle.fr_first.specs.Stops.{Tells, IsUnbuilt};
 use crate::names::{are_distinct, is_free, place_of};
 use fr_show::{AcceptStop, ProgramKind, read_forms};
 use fr_sums::{Core, Input, Program, Show};
-use fr_value::{List, Name, Value};
+use fr_value::{List, Symbol, Value};
 use sqlite_items::Items;
 use std::alloc::{AllocError, Global};
 
@@ -166,7 +166,7 @@ fn input_of(form: &Value) -> Result<Option<Input>, AllocError>
 }
 
 /// The name and the integer of a form `(define-input NAME INT)`.
-fn input_parts(form: &Value) -> Option<(&Name, i64)>
+fn input_parts(form: &Value) -> Option<(&Symbol, i64)>
     ensures { option_map input_named result ≡ input_of (datum_of form.now) }
 {
     match parts_of(b"define-input", form) {
@@ -195,7 +195,7 @@ fn show_of(alloc: Global, inputs: &[Input], form: &Value) -> Result<Option<Show>
 }
 
 /// The name and the last part of a form `(HEAD NAME PART)`.
-fn parts_of<'a>(head: &[u8], form: &'a Value) -> Option<(&'a Name, &'a Value)>
+fn parts_of<'a>(head: &[u8], form: &'a Value) -> Option<(&'a Symbol, &'a Value)>
     ensures { option_map (λ x. (x.0.now, x.1.now)) result ≡ parts_at head.now form.now }
 {
     let Value::List(list) = form else {

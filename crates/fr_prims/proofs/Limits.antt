@@ -1,25 +1,16 @@
 -- Lists within the limits, and beyond them.
-use Rattle.std.specs.Prelude.{ℕ, ◌+◌, ◌<◌, ◌≡◌, Bool, true, false, nat_le, List, [], ◌∷◌, ◌++◌, map, max, reverse, Option, Some, None, Ok, Err, length, drop, get_or, slice_get, suc}
+use Rattle.std.specs.Prelude.{ℕ, ◌+◌, ◌<◌, ◌≡◌, false, nat_le, List, [], ◌∷◌, ◌++◌, map, max, reverse, Option, Some, None, Ok, Err, length, drop, get_or, slice_get, suc}
 use mathlib.Core.List.{reverse_aux}
 use Rattle.std.proofs.Common.{refl, sym, ◌∙◌, ap, subst, arith, add-one, drop-cons}
-use Rattle.std.proofs.lemmas.Bool.{and_parts, le-leb, leb-true, lt-leb}
+use Rattle.std.proofs.lemmas.Bool.{lt-leb}
 use Rattle.std.proofs.lemmas.Option.{slice_get_within}
 use Rattle.fr_value.specs.declared.value.Datum.{Datum}
 use Rattle.fr_value.specs.declared.value.Value.{Value}
 use Rattle.fr_value.specs.declared.value.Value.TheVariants as value
 use Rattle.fr_value.specs.declared.now.Bad.TheVariants.{Empty, TooBig}
-use Rattle.fr_value.specs.Data.{data_of, datum_of, value_of, value_of-datum_of, data_size, data_depth, datum_size, datum_depth, total, greatest, AreFew, behind}
-use Rattle.fr_prims.specs.Data.{few, list_answer, car, cdr, item_answer, joined, items_of}
-
-never : (b : Bool) → (b ≡ true → ⊥) → b ≡ false
-never true n = absurd (n refl)
-never false n = refl
-
-few_passes : (ds : List Datum) → AreFew ds → few ds ≡ true
-few_passes ds h = rw (le-leb (data_size ds) 1048576 h.0, le-leb (data_depth ds) 64 h.1) refl
-
-few_fails : (ds : List Datum) → (AreFew ds → ⊥) → few ds ≡ false
-few_fails ds n = never (few ds) (λ e. let p = and_parts _ _ e in n (leb-true (data_size ds) 1048576 p.0, leb-true (data_depth ds) 64 p.1))
+use Rattle.fr_value.specs.Data.{data_of, datum_of, value_of, value_of-datum_of, data_size, datum_size, datum_depth, total, greatest, AreFew, behind}
+use Rattle.fr_value.proofs.Limits.{few_passes, few_fails}
+use Rattle.fr_prims.specs.Data.{list_answer, car, cdr, item_answer, joined, items_of}
 
 -- a list within the limits is the answer
 pub answer_few : (ds : List Datum) → AreFew ds → list_answer ds ≡ Ok (value.List ds)

@@ -1,6 +1,6 @@
 -- The primitives on lists, and the tests of any value.
-use Rattle.std.specs.Prelude.{nat_le, ℤ, pos, negsuc, Bool, true, false, not, ◌&&◌, if◌then◌else◌, List, [], ◌∷◌, ◌++◌, slice_get, Option, Some, None, Ok, Err}
-use Rattle.fr_value.specs.Data.{value_of, data_size, data_depth}
+use Rattle.std.specs.Prelude.{ℤ, pos, negsuc, Bool, true, false, not, if◌then◌else◌, List, [], ◌∷◌, ◌++◌, slice_get, Option, Some, None, Ok, Err}
+use Rattle.fr_value.specs.Data.{value_of, few}
 use Rattle.fr_value.specs.declared.value.Datum.{Datum}
 use Rattle.fr_value.specs.declared.value.Value.{Value}
 use Rattle.fr_value.specs.declared.value.Value.TheVariants as value
@@ -51,10 +51,6 @@ is_pair v = false
 abbrev pub on_list : (List Datum → Answer) → Value → Answer
 on_list f (value.List ds) = f ds
 on_list f v = Err WrongType
-
--- a list of these data is within the limits on size and depth
-abbrev pub few : List Datum → Bool
-few ds = nat_le (data_size ds) 1048576 && nat_le (data_depth ds) 64
 
 -- a list as an answer, where it is within the limits
 abbrev pub list_answer : List Datum → Answer

@@ -1,5 +1,6 @@
 -- The primitives on strings and symbols.
-use Rattle.std.specs.Prelude.{ℕ, ◌+◌, nat_le, Bool, true, ◌&&◌, if◌then◌else◌, List, [], ◌∷◌, ◌++◌, length, Ok, Err}
+use Rattle.std.specs.Prelude.{ℕ, Bool, true, ◌&&◌, if◌then◌else◌, List, [], ◌∷◌, ◌++◌, Ok, Err}
+use Rattle.fr_value.specs.Bytes.{is_short}
 use Rattle.fr_value.specs.Same.{is_same}
 use Rattle.fr_value.specs.declared.value.Value.{Value}
 use Rattle.fr_value.specs.declared.value.Value.TheVariants as value
@@ -27,9 +28,9 @@ abbrev pub joined_text : List Value → List ℕ
 joined_text [] = []
 joined_text (v ∷ vs) = text_of v ++ joined_text vs
 
--- a string as an answer, where its size is within the limit
+-- a string as an answer, where it is short
 abbrev pub string_answer : List ℕ → Answer
-string_answer s = if nat_le (1 + length s) 1048576 then Ok (value.Str s) else Err TooBig
+string_answer s = if is_short s then Ok (value.Str s) else Err TooBig
 
 -- strings joined
 abbrev pub strings_appended : List Value → Answer

@@ -1,13 +1,14 @@
-ghost use Rattle.std.specs.Prelude.{◌≡◌, ◌++◌, ◌+◌, IfOk, OnOk, Ok, pos, length, nat_le, ◌<◌, ◌^◌};
+ghost use Rattle.std.specs.Prelude.{◌≡◌, ◌++◌, ◌+◌, IfOk, OnOk, Ok, pos, length, ◌<◌, ◌^◌};
 ghost use Rattle.std.specs.Fmt.{signed_decimal};
 ghost use Rattle.std.specs.Str.{chars};
 ghost use Rattle.std.specs.String.{string_bytes};
+ghost use Rattle.fr_value.specs.Bytes.{is_short};
 ghost use Rattle.fr_value.specs.declared.value.Value.TheVariants as value;
 ghost use Rattle.fr_prims.specs.Integers.{one, on_integer};
 ghost use Rattle.fr_prims.specs.Strings.{on_string, on_symbol, text_of, joined_text, string_answer, strings_appended, all_same, strings_equal};
 
 use crate::kinds::{Answer, Kind, all_of};
-use fr_value::{Bad, Name, Value, same};
+use fr_value::{Bad, MAX_TEXT_BYTES, Text, Value, same};
 use itoa::Buffer;
 use std::alloc::{AllocError, Global};
 
@@ -39,16 +40,16 @@ fn text_len(value: &Value) -> usize
     }
 }
 
-/// Whether the strings make one within the limit on size.
+/// Whether the strings make one that is short.
 ///
 /// It is asked before any byte is copied, so that no more memory is taken than a string may have.
 fn are_short(strings: &[Value]) -> bool
-    ensures { result ≡ nat_le (1 + length (joined_text strings.now)) 1048576 }
+    ensures { result ≡ is_short (joined_text strings.now) }
 {
-    let mut size: usize = 1;
+    let mut size: usize = 0;
     for value in strings {
         let len = text_len(value);
-        if len > 1_048_576 - size {
+        if len > MAX_TEXT_BYTES - size {
             return false;
         }
         size += len;
@@ -76,7 +77,7 @@ fn join_strings(alloc: Global, strings: &[Value]) -> Result<Answer, AllocError>
     }
     let mut text = String::new(alloc);
     push_strings(&mut text, strings)?;
-    Ok(Ok(Value::Str(Name::from_str(alloc, text.as_str())?)))
+    Ok(Ok(Value::Str(Text::from_str(alloc, text.as_str())?)))
 }
 
 /// The strings that are the arguments, joined.
@@ -123,7 +124,7 @@ pub(crate) fn symbol_to_string(args: &[Value]) -> Result<Answer, AllocError>
     ensures { IfOk result (λ r. r ≡ one (on_symbol (λ s. Ok (value.Str s))) args.now) }
 {
     match args {
-        [Value::Sym(name)] => Ok(Ok(Value::Str(name.share()?))),
+        [Value::Sym(name)] => Ok(Ok(Value::Str(Text::of_symbol(name)?))),
         [_] => Ok(Err(Bad::WrongType)),
         _ => Ok(Err(Bad::Arity)),
     }
@@ -135,7 +136,7 @@ pub(crate) fn number_to_string(alloc: Global, args: &[Value]) -> Result<Answer, 
 {
     match args {
         [Value::Int(n)] => {
-            let text = Name::from_str(alloc, Buffer::new().format(*n))?;
+            let text = Text::from_str(alloc, Buffer::new().format(*n))?;
             Ok(Ok(Value::Str(text)))
         }
         [_] => Ok(Err(Bad::WrongType)),

@@ -10,7 +10,7 @@ use crate::meaning::Meaning;
 use crate::scope::Scope;
 use fr_prims::prim_named;
 use fr_syntax::{Outline, Sort, outline_of};
-use fr_value::{FunId, Name, SrcId, Value};
+use fr_value::{FunId, SrcId, Symbol, Value};
 use std::alloc::{AllocError, Global};
 use std::collections::HashMap;
 use std::marker::Model;
@@ -27,7 +27,7 @@ pub struct Globals {
 /// A name that a form gives.
 #[derive(Drop)]
 struct Given {
-    name: Name,
+    name: Symbol,
     sort: Sort,
 }
 
@@ -58,7 +58,7 @@ impl Globals {
 
     /// What a name means where these variables are in scope, or None where it means nothing. It takes no memory, and no time
     /// in the number of names or variables.
-    pub fn meaning(&self, scope: &Scope, name: &Name) -> Option<Meaning>
+    pub fn meaning(&self, scope: &Scope, name: &Symbol) -> Option<Meaning>
         ensures { result ≡ meaning_of self.now scope.now name.now }
     {
         if let Some(variable) = scope.variable(name) {
@@ -154,7 +154,7 @@ fn functions_behind(sort: Sort, functions: u32) -> u32
 }
 
 /// `now` or a primitive.
-fn built_in(name: &Name) -> Option<Meaning>
+fn built_in(name: &Symbol) -> Option<Meaning>
     ensures { result ≡ built_in name.now }
 {
     let text = name.as_str();

@@ -4,7 +4,7 @@ ghost use Rattle.std.specs.HashMap.{get_by_text};
 ghost use Rattle.std.specs.Str.{bytes_eq};
 ghost use Rattle.fr_scope.specs.Meanings.{binds, innermost};
 
-use fr_value::{Name, VarId};
+use fr_value::{Symbol, VarId};
 use std::alloc::{AllocError, Global};
 use std::collections::HashMap;
 use std::marker::Model;
@@ -21,7 +21,7 @@ pub struct Scope {
 /// A variable in scope.
 #[derive(Drop)]
 struct Variable {
-    name: Option<Name>,
+    name: Option<Symbol>,
     /// The variable of the same name that this one hides.
     hidden: Option<VarId>,
 }
@@ -59,7 +59,7 @@ impl Scope {
 
     /// One more variable, the innermost, of this name. It makes one more owner of the name, and a copy of its text. Where memory
     /// is wanting nothing changes.
-    pub fn push(&mut self, name: &Name) -> Result<(), AllocError>
+    pub fn push(&mut self, name: &Symbol) -> Result<(), AllocError>
         requires { length self.old < 4294967295 }
         ensures pushed { OnOk result (self.new ≡ self.old ++ Some name.now ∷ []) }
         ensures unchanged { OnErr result (self.new ≡ self.old) }
@@ -110,7 +110,7 @@ impl Scope {
     }
 
     /// The innermost variable of that name. It takes no memory, and no time in the number of variables.
-    pub fn variable(&self, name: &Name) -> Option<VarId>
+    pub fn variable(&self, name: &Symbol) -> Option<VarId>
         ensures { option_map (λ v. v.0) result ≡ innermost name.now 0 self.now }
     {
         self.innermost.get(name.as_str()).copied()

@@ -6,7 +6,7 @@ ghost use Rattle.fr_show.specs.Output.{shows_of};
 ghost use Rattle.fr_show.specs.Shows.{plain_text, kept, kept_each, last_at};
 
 use fr_core::{Item, Program};
-use fr_value::{Name, Now, Value, text_into};
+use fr_value::{Now, Symbol, Value, text_into};
 use itoa::Buffer;
 use std::alloc::{AllocError, Global};
 use std::marker::Model;
@@ -28,7 +28,7 @@ impl Model for Text {
 /// A show: its name, and the last plain text that it had, if it had one.
 #[derive(Drop)]
 struct Show {
-    name: Name,
+    name: Symbol,
     last: Option<Text>,
 }
 
@@ -87,7 +87,7 @@ impl Text {
     }
 }
 
-fn push_line(out: &mut Vec<u8>, time: u64, name: &Name, text: &Text) -> Result<(), AllocError>
+fn push_line(out: &mut Vec<u8>, time: u64, name: &Symbol, text: &Text) -> Result<(), AllocError>
     ensures { OnOk result (out.new.items ≡ out.old.items ++ line time name.now text.now) }
 {
     out.extend_from_slice(Buffer::new().format(time).as_bytes())?;
@@ -141,7 +141,7 @@ fn push_occurrence(
     alloc: Global,
     out: &mut Vec<u8>,
     time: u64,
-    name: &Name,
+    name: &Symbol,
     payload: &Value,
 ) -> Result<Option<Text>, AllocError>
     ensures text { IfOk result (λ t. t ≡ None) }

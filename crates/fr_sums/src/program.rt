@@ -1,4 +1,4 @@
-use fr_value::Name;
+use fr_value::Symbol;
 use sqlite_items::Items;
 
 /// An expression. Other forms come as further variants.
@@ -15,14 +15,14 @@ pub enum Core {
 /// A behaviour that the script sets, with its value before it is set.
 #[derive(Drop)]
 pub struct Input {
-    pub name: Name,
+    pub name: Symbol,
     pub first: i64,
 }
 
 /// A displayed value.
 #[derive(Drop)]
 pub struct Show {
-    pub name: Name,
+    pub name: Symbol,
     pub expr: Core,
 }
 

@@ -8,10 +8,10 @@ ghost use Rattle.fr_syntax.specs.Layouts.{named_in};
 
 use crate::lists::{list_of, lone_of, pair_of};
 use crate::outlines::symbol_of;
-use fr_value::{Name, Value};
+use fr_value::{Symbol, Value};
 
 /// The name and the value of a binding `(NAME EXPR)`.
-pub(crate) fn binding(v: &Value) -> Option<(&Name, &Value)>
+pub(crate) fn binding(v: &Value) -> Option<(&Symbol, &Value)>
     ensures { (below : Below) → option_and_then (named_in below) result ≡ binding below (datum_of v.now) }
 {
     let (name, value) = pair_of(v)?;
@@ -19,7 +19,7 @@ pub(crate) fn binding(v: &Value) -> Option<(&Name, &Value)>
 }
 
 /// The name and the value of the single binding in a list `((NAME EXPR))`.
-pub(crate) fn lone_binding(v: &Value) -> Option<(&Name, &Value)>
+pub(crate) fn lone_binding(v: &Value) -> Option<(&Symbol, &Value)>
     ensures { (below : Below) → option_and_then (named_in below) result ≡ lone_binding below (datum_of v.now) }
 {
     binding(lone_of(list_of(v)?)?)

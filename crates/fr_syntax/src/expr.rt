@@ -1,4 +1,4 @@
-use fr_value::{Name, Value};
+use fr_value::{Symbol, Value};
 use sqlite_items::{Boxed, Items};
 
 /// An expression with its parts, in the order of its text. Its names aren't looked up.
@@ -7,13 +7,13 @@ pub enum Expr {
     /// An integer, a truth value, a string, or the datum of `(quote DATUM)`.
     Literal(Value),
     /// A name that stands for a value.
-    Name(Name),
+    Name(Symbol),
     /// `(if TEST THEN ELSE)`.
     If(Boxed<Expr>, Boxed<Expr>, Boxed<Expr>),
     /// `(let ((NAME EXPR) ...) BODY)`: the names, their expressions, and the body.
-    Let(Items<Name>, Items<Expr>, Boxed<Expr>),
+    Let(Items<Symbol>, Items<Expr>, Boxed<Expr>),
     /// `(let* ((NAME EXPR) ...) BODY)`: the names, their expressions, and the body.
-    LetStar(Items<Name>, Items<Expr>, Boxed<Expr>),
+    LetStar(Items<Symbol>, Items<Expr>, Boxed<Expr>),
     /// `(cond (TEST EXPR) ... (else EXPR))`: the tests, the expressions behind them, and the last expression.
     Cond(Items<Expr>, Items<Expr>, Boxed<Expr>),
     /// `(and EXPR ...)`.
@@ -21,21 +21,21 @@ pub enum Expr {
     /// `(or EXPR ...)`.
     Or(Items<Expr>),
     /// `(for/fold ((ACC INIT)) ((ITEM LIST)) BODY)`: the two names, and then the three expressions.
-    Fold(Name, Name, Boxed<Expr>, Boxed<Expr>, Boxed<Expr>),
+    Fold(Symbol, Symbol, Boxed<Expr>, Boxed<Expr>, Boxed<Expr>),
     /// `(repeat (ACC INIT) COUNT BODY)`.
-    Repeat(Name, Boxed<Expr>, Boxed<Expr>, Boxed<Expr>),
+    Repeat(Symbol, Boxed<Expr>, Boxed<Expr>, Boxed<Expr>),
     /// `(map-e (lambda (PAYLOAD) BODY) EVENT)`: the name, the body, and the event.
-    MapE(Name, Boxed<Expr>, Boxed<Expr>),
+    MapE(Symbol, Boxed<Expr>, Boxed<Expr>),
     /// `(filter-e (lambda (PAYLOAD) BODY) EVENT)`: the name, the body, and the event.
-    FilterE(Name, Boxed<Expr>, Boxed<Expr>),
+    FilterE(Symbol, Boxed<Expr>, Boxed<Expr>),
     /// `(merge-e EVENT EVENT ...)`, two or more.
     MergeE(Items<Expr>),
     /// `(hold EVENT INIT)`.
     Hold(Boxed<Expr>, Boxed<Expr>),
     /// `(collect-b EVENT INIT (lambda (PAYLOAD STATE) BODY))`: the event, the first state, the two names, and the body.
-    CollectB(Boxed<Expr>, Boxed<Expr>, Name, Name, Boxed<Expr>),
+    CollectB(Boxed<Expr>, Boxed<Expr>, Symbol, Symbol, Boxed<Expr>),
     /// `(collect-e EVENT INIT (lambda (PAYLOAD STATE) BODY))`: the event, the first state, the two names, and the body.
-    CollectE(Boxed<Expr>, Boxed<Expr>, Name, Name, Boxed<Expr>),
+    CollectE(Boxed<Expr>, Boxed<Expr>, Symbol, Symbol, Boxed<Expr>),
     /// `(changes BEHAVIOUR)`.
     Changes(Boxed<Expr>),
     /// `(once-e EVENT)`.
@@ -45,7 +45,7 @@ pub enum Expr {
     /// `(delay-e EVENT)`.
     DelayE(Boxed<Expr>),
     /// `(feedback (NAME INIT) BODY)`.
-    Feedback(Name, Boxed<Expr>, Boxed<Expr>),
+    Feedback(Symbol, Boxed<Expr>, Boxed<Expr>),
     /// `(NAME EXPR ...)`, where the name is no keyword.
-    Call(Name, Items<Expr>),
+    Call(Symbol, Items<Expr>),
 }

@@ -12,7 +12,7 @@ use crate::layouts::{Layout, cond_with};
 use crate::lists::items_of;
 use crate::openings::layout_of;
 use crate::parts::{both, named, push_both};
-use fr_value::{List, Name, Value};
+use fr_value::{List, Symbol, Value};
 use sqlite_items::Items;
 use std::alloc::{AllocError, Global};
 
@@ -105,7 +105,7 @@ fn bindings(
     alloc: Global,
     levels: u32,
     items: &[Value],
-) -> Result<Option<(Items<Name>, Items<Expr>)>, AllocError>
+) -> Result<Option<(Items<Symbol>, Items<Expr>)>, AllocError>
     ensures { IfOk result (λ bs. bs ≡ bindings (expr_to levels) (data_of items.now)) }
 {
     let mut found = (Items::new(alloc), Items::new(alloc));
@@ -131,7 +131,7 @@ fn bound(
     levels: u32,
     list: &List,
     body: &Value,
-) -> Result<Option<((Items<Name>, Items<Expr>), Expr)>, AllocError>
+) -> Result<Option<((Items<Symbol>, Items<Expr>), Expr)>, AllocError>
     ensures { IfOk result (λ x. x ≡ bound (expr_to levels) list.now (datum_of body.now)) }
 {
     match bindings(alloc, levels, &list.to_vec(alloc)?)? {
@@ -189,7 +189,7 @@ fn literal(v: &Value) -> Result<Option<Expr>, AllocError>
     Ok(Some(Expr::Literal(v.share()?)))
 }
 
-fn variable(name: &Name) -> Result<Option<Expr>, AllocError>
+fn variable(name: &Symbol) -> Result<Option<Expr>, AllocError>
     ensures { IfOk result (λ e. e ≡ Some (expr.Name name.now)) }
 {
     Ok(Some(Expr::Name(name.share()?)))

@@ -1,18 +1,18 @@
 use crate::expr::Expr;
-use fr_value::{Name, Value};
+use fr_value::{Symbol, Value};
 use sqlite_items::Items;
 
 /// A form of a program. Its names aren't looked up.
 #[derive(Drop)]
 pub enum Form {
     /// `(define-input NAME DATUM)`: a behaviour that the script sets, and its first value.
-    Input(Name, Value),
+    Input(Symbol, Value),
     /// `(define-event NAME)`: an event stream whose occurrences the script gives.
-    Event(Name),
+    Event(Symbol),
     /// `(define (NAME PARAM ...) BODY)`: a function, its parameters and its body.
-    Function(Name, Items<Name>, Expr),
+    Function(Symbol, Items<Symbol>, Expr),
     /// `(define NAME EXPR)`: a value for the forms behind it.
-    Define(Name, Expr),
+    Define(Symbol, Expr),
     /// `(show NAME EXPR)`: a displayed value.
-    Show(Name, Expr),
+    Show(Symbol, Expr),
 }

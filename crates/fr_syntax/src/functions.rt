@@ -9,7 +9,7 @@ use crate::exprs::{LEVELS, expr};
 use crate::form::Form;
 use crate::outlines::symbol_of;
 use crate::parts::{both, named};
-use fr_value::{Name, Value};
+use fr_value::{Symbol, Value};
 use sqlite_items::Items;
 use std::alloc::{AllocError, Global};
 
@@ -40,7 +40,7 @@ pub(crate) fn function_form(
 }
 
 /// All of these as names.
-fn symbols(alloc: Global, items: &[Value]) -> Result<Option<Items<Name>>, AllocError>
+fn symbols(alloc: Global, items: &[Value]) -> Result<Option<Items<Symbol>>, AllocError>
     ensures { IfOk result (λ ss. ss ≡ symbols (data_of items.now)) }
 {
     let mut names = Items::new(alloc);

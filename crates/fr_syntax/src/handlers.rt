@@ -11,11 +11,11 @@ ghost use Rattle.fr_syntax.specs.Layouts.{named_in, lambda_in, two_named_in, han
 use crate::keyword::Keyword;
 use crate::lists::{both_of, list_of, lone_of, three_in, three_of, two_in};
 use crate::outlines::{keyword_of, symbol_of};
-use fr_value::{List, Name, Value};
+use fr_value::{List, Symbol, Value};
 
 /// A handler of one parameter and its event.
 pub(crate) struct Handler<'a> {
-    pub(crate) payload: &'a Name,
+    pub(crate) payload: &'a Symbol,
     pub(crate) body: &'a Value,
     pub(crate) event: &'a Value,
 }
@@ -24,8 +24,8 @@ pub(crate) struct Handler<'a> {
 pub(crate) struct Collector<'a> {
     pub(crate) event: &'a Value,
     pub(crate) first: &'a Value,
-    pub(crate) payload: &'a Name,
-    pub(crate) state: &'a Name,
+    pub(crate) payload: &'a Symbol,
+    pub(crate) state: &'a Symbol,
     pub(crate) body: &'a Value,
 }
 
@@ -58,7 +58,7 @@ pub(crate) fn collector_in(items: &[Value]) -> Option<Collector<'_>>
 }
 
 /// The parameter and the body of a `lambda` of one parameter.
-fn one_param(v: &Value) -> Option<(&Name, &Value)>
+fn one_param(v: &Value) -> Option<(&Symbol, &Value)>
     ensures { (below : Below) → option_and_then (named_in below) result ≡ option_and_then one_param (lambda_of below (datum_of v.now)) }
 {
     let (params, body) = lambda_of(v)?;
@@ -66,7 +66,7 @@ fn one_param(v: &Value) -> Option<(&Name, &Value)>
 }
 
 /// The parameters and the body of a `lambda` of two parameters.
-fn two_params(v: &Value) -> Option<(&Name, &Name, &Value)>
+fn two_params(v: &Value) -> Option<(&Symbol, &Symbol, &Value)>
     ensures { (below : Below) → option_and_then (two_named_in below) result ≡ option_and_then two_params (lambda_of below (datum_of v.now)) }
 {
     let (params, body) = lambda_of(v)?;

@@ -5,7 +5,7 @@ ghost use Rattle.fr_syntax.specs.Layouts.{single_of, double_of, triple_of, many_
 
 use crate::expr::Expr;
 use crate::parts::{boxed_beside, named, named_twice, three_boxed, two_boxed};
-use fr_value::{List, Name, Value};
+use fr_value::{List, Symbol, Value};
 use sqlite_items::{Boxed, Items};
 use std::alloc::{AllocError, Global};
 
@@ -15,7 +15,7 @@ pub(crate) enum Layout<'a> {
     /// The value itself.
     Literal(&'a Value),
     /// A name that stands for a value.
-    Name(&'a Name),
+    Name(&'a Symbol),
     /// A form of one expression.
     One(Single, &'a Value),
     /// A form of two expressions.
@@ -43,19 +43,19 @@ pub(crate) enum Single {
 pub(crate) enum Double<'a> {
     Hold,
     Delay,
-    MapE(&'a Name),
-    FilterE(&'a Name),
-    Feedback(&'a Name),
+    MapE(&'a Symbol),
+    FilterE(&'a Symbol),
+    Feedback(&'a Symbol),
 }
 
 /// A form of three expressions, with the names that it binds.
 #[derive(Clone, Copy)]
 pub(crate) enum Triple<'a> {
     If,
-    Fold(&'a Name, &'a Name),
-    Repeat(&'a Name),
-    CollectB(&'a Name, &'a Name),
-    CollectE(&'a Name, &'a Name),
+    Fold(&'a Symbol, &'a Symbol),
+    Repeat(&'a Symbol),
+    CollectB(&'a Symbol, &'a Symbol),
+    CollectE(&'a Symbol, &'a Symbol),
 }
 
 /// A form of any number of expressions.
@@ -64,7 +64,7 @@ pub(crate) enum Many<'a> {
     And,
     Or,
     MergeE,
-    Call(&'a Name),
+    Call(&'a Symbol),
 }
 
 /// A form that binds a list of names.
@@ -206,7 +206,7 @@ impl Binder {
     pub(crate) fn with(
         self,
         alloc: Global,
-        parts: Option<((Items<Name>, Items<Expr>), Expr)>,
+        parts: Option<((Items<Symbol>, Items<Expr>), Expr)>,
     ) -> Result<Option<Expr>, AllocError>
         ensures { IfOk result (λ e. e ≡ option_map (λ x. binder_of self x.0.0 x.0.1 x.1) parts) }
     {
@@ -219,7 +219,7 @@ impl Binder {
         }
     }
 
-    fn of(self, names: Items<Name>, values: Items<Expr>, body: Boxed<Expr>) -> Expr
+    fn of(self, names: Items<Symbol>, values: Items<Expr>, body: Boxed<Expr>) -> Expr
         ensures { result ≡ binder_of self names values body }
     {
         match self {

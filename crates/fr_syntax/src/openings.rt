@@ -15,7 +15,7 @@ use crate::keyword::{Keyword, keyword_named};
 use crate::layouts::{Binder, Double, Layout, Many, Single, Triple};
 use crate::lists::{list_of, one_in, three_in, two_in};
 use crate::outlines::symbol_of;
-use fr_value::{Name, Value};
+use fr_value::{Symbol, Value};
 
 /// What an expression is by its outermost list, of these items; None where the list is no form by that.
 pub(crate) fn layout_of<'a>(v: &'a Value, items: &'a [Value]) -> Option<Layout<'a>>
@@ -38,7 +38,7 @@ fn list_layout(items: &[Value]) -> Option<Layout<'_>>
 }
 
 /// What a list is that begins with this name.
-fn named_layout<'a>(name: &'a Name, rest: &'a [Value]) -> Option<Layout<'a>>
+fn named_layout<'a>(name: &'a Symbol, rest: &'a [Value]) -> Option<Layout<'a>>
     ensures { (below : Below) → option_and_then (filled below) result ≡ named_form below (named name.now) name.now (data_of rest.now) }
 {
     match keyword_named(name.as_str()) {

@@ -3,7 +3,7 @@ ghost use Rattle.std.specs.Option.{option_map};
 ghost use Rattle.fr_syntax.specs.Outlines.{symbol_of, keyword_of, head_symbol, given, outline_of as outlined, told};
 
 use crate::keyword::{Keyword, keyword_named};
-use fr_value::{Name, Value};
+use fr_value::{Symbol, Value};
 
 /// What a global name is.
 #[derive(Clone, Copy, Debug, PartialEq, Eq)]
@@ -15,7 +15,7 @@ pub enum Sort {
 
 /// A global name that a form gives, and what it is.
 pub struct Outline<'a> {
-    pub name: &'a Name,
+    pub name: &'a Symbol,
     pub sort: Sort,
 }
 
@@ -45,7 +45,7 @@ fn given(keyword: Option<Keyword>, second: &Value) -> Option<Outline<'_>>
     }
 }
 
-fn outlined(name: Option<&Name>, sort: Sort) -> Option<Outline<'_>>
+fn outlined(name: Option<&Symbol>, sort: Sort) -> Option<Outline<'_>>
     ensures { option_map told result ≡ option_map (λ n. (n.now, sort)) name.entry }
 {
     match name {
@@ -55,7 +55,7 @@ fn outlined(name: Option<&Name>, sort: Sort) -> Option<Outline<'_>>
 }
 
 /// The symbol that a value is, if it is one.
-pub(crate) fn symbol_of(v: &Value) -> Option<&Name>
+pub(crate) fn symbol_of(v: &Value) -> Option<&Symbol>
     ensures { option_map (λ n. n.now) result ≡ symbol_of v.now }
 {
     match v {
@@ -75,7 +75,7 @@ pub(crate) fn keyword_of(v: &Value) -> Option<Keyword>
 }
 
 /// The symbol that a list begins with.
-fn head_symbol(v: &Value) -> Option<&Name>
+fn head_symbol(v: &Value) -> Option<&Symbol>
     ensures { option_map (λ n. n.now) result ≡ head_symbol v.now }
 {
     match v {

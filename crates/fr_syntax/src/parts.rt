@@ -1,7 +1,7 @@
 ghost use Rattle.std.specs.Prelude.{◌≡◌, ◌++◌, ◌∷◌, [], IfOk, OnOk};
 ghost use Rattle.fr_syntax.specs.Parts.{beside};
 
-use fr_value::Name;
+use fr_value::Symbol;
 use sqlite_items::{Boxed, Items};
 use std::alloc::{AllocError, Global};
 
@@ -47,7 +47,7 @@ pub(crate) fn three_boxed<T: Drop>(
 }
 
 /// One more owner of a name, beside these parts.
-pub(crate) fn named<P: Drop>(name: &Name, parts: P) -> Result<(Name, P), AllocError>
+pub(crate) fn named<P: Drop>(name: &Symbol, parts: P) -> Result<(Symbol, P), AllocError>
     ensures { IfOk result (λ x. (x.0 ≡ name.now) × (x.1 ≡ parts)) }
 {
     Ok((name.share()?, parts))
@@ -55,10 +55,10 @@ pub(crate) fn named<P: Drop>(name: &Name, parts: P) -> Result<(Name, P), AllocEr
 
 /// One more owner of each of two names, beside these parts.
 pub(crate) fn named_twice<P: Drop>(
-    first: &Name,
-    second: &Name,
+    first: &Symbol,
+    second: &Symbol,
     parts: P,
-) -> Result<(Name, (Name, P)), AllocError>
+) -> Result<(Symbol, (Symbol, P)), AllocError>
     ensures { IfOk result (λ x. (x.0 ≡ first.now) × (x.1.0 ≡ second.now) × (x.1.1 ≡ parts)) }
 {
     named(first, named(second, parts)?)

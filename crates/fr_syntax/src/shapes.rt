@@ -16,7 +16,7 @@ use crate::keyword::Keyword;
 use crate::lists::{one_in, two_in};
 use crate::outlines::{keyword_of, symbol_of};
 use crate::parts::named;
-use fr_value::{Name, Value};
+use fr_value::{Symbol, Value};
 use std::alloc::{AllocError, Global};
 
 /// The form that a value is, or None where the value, or an expression in it, has the shape of no form.
@@ -123,7 +123,7 @@ fn named_expr(
     alloc: Global,
     name: &Value,
     value: &Value,
-) -> Result<Option<(Name, Expr)>, AllocError>
+) -> Result<Option<(Symbol, Expr)>, AllocError>
     ensures { IfOk result (λ x. x ≡ option_and_then (λ s. option_map (λ e. (s, e)) (expr_of (datum_of value.now))) (symbol_of name.now)) }
 {
     let Some(name) = symbol_of(name) else {

@@ -2,8 +2,8 @@ use crate::calls::{Call, Row, wrong};
 use crate::names::tell_outline;
 use crate::told::Told;
 use fr_prims::{PrimStop, apply, prim_named};
-use fr_reader::{OneStop, ReadStop, one_reading, printed_text_reads, read_all, read_one, symbol};
-use fr_value::{Bad, List, ListRefusal, Name, Now, Primitive, Value, same};
+use fr_reader::{OneStop, ReadStop, one_reading, printed_text_reads, read_all, read_one};
+use fr_value::{Bad, List, ListRefusal, Now, Primitive, Text, Value, same, symbol};
 use std::alloc::{AllocError, Global};
 
 fn tell_refused(out: &mut Told, number: u32) {
@@ -272,14 +272,14 @@ fn is_shared(now: Now) -> bool {
 }
 
 #[test]
-fn states_and_names_are_shared(rt: HostRuntime) -> Result<(), AllocError> {
+fn states_and_texts_are_shared(rt: HostRuntime) -> Result<(), AllocError> {
     assert!(rt; is_shared(Now::Occ(Some(Value::Bool(true)))));
     assert!(rt; !is_shared(Now::Occ(None)));
     assert!(rt; !is_shared(Now::Plain(Value::Bool(true))));
-    let name = Name::from_str(rt.alloc(), "\u{e9}")?;
-    assert_eq!(rt; name.len(), 2);
-    assert_eq!(rt; name.share()?.as_str(), "\u{e9}");
-    assert!(rt; name.same(&name.share()?));
+    let text = Text::from_str(rt.alloc(), "\u{e9}")?;
+    assert_eq!(rt; text.len(), 2);
+    assert_eq!(rt; text.share()?.as_str(), "\u{e9}");
+    assert!(rt; text.same(&text.share()?));
     Ok(())
 }
 

@@ -3,8 +3,17 @@ use crate::told::Told;
 use fr_reader::{read_all, read_one};
 use fr_scope::{Globals, Meaning, Scope};
 use fr_syntax::{Form, Keyword, Outline, Sort, form_of, keyword_named, outline_of};
-use fr_value::{Name, Value};
+use fr_value::{Symbol, SymbolRefusal, Value};
 use std::alloc::{AllocError, Global};
+
+/// The symbol that a text is, if it is one.
+fn symbol_of(alloc: Global, text: &str) -> Result<Option<Symbol>, AllocError> {
+    match Symbol::from_bytes(alloc, text.as_bytes()) {
+        Ok(symbol) => Ok(Some(symbol)),
+        Err(SymbolRefusal::Memory(e)) => Err(e),
+        Err(_) => Ok(None),
+    }
+}
 
 /// One step: `_` is a variable without a name, `<2` leaves the scope of all but two variables, and a name is a variable.
 fn step(alloc: Global, scope: &mut Scope, text: &str) -> Result<(), AllocError> {
@@ -15,9 +24,12 @@ fn step(alloc: Global, scope: &mut Scope, text: &str) -> Result<(), AllocError> 
     if scope.len() > 9 {
         return Ok(());
     }
-    match text {
-        "_" => scope.push_unnamed(),
-        _ => scope.push(&Name::from_str(alloc, text)?),
+    if text == "_" {
+        return scope.push_unnamed();
+    }
+    match symbol_of(alloc, text)? {
+        Some(name) => scope.push(&name),
+        None => Ok(()),
     }
 }
 
@@ -58,9 +70,11 @@ fn meaning(
     scope: &Scope,
     name: &str,
 ) -> Result<Option<Meaning>, AllocError> {
-    let name = Name::from_str(alloc, name)?;
     let globals = globals(alloc, forms)?;
-    Ok(globals.meaning(scope, &name))
+    Ok(match symbol_of(alloc, name)? {
+        Some(name) => globals.meaning(scope, &name),
+        None => None,
+    })
 }
 
 fn tell_in(alloc: Global, out: &mut Told, forms: Vec<Value>, scope: &Scope, name: &str) {

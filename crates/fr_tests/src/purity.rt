@@ -2,7 +2,7 @@ use crate::calls::{Call, Row, wrong};
 use crate::told::Told;
 use fr_core::{Core, Function, Item, Program};
 use fr_purity::{Classes, classify, is_fit, is_pure};
-use fr_value::{FunId, Name};
+use fr_value::{FunId, Symbol};
 use sqlite_items::Items;
 use std::alloc::{AllocError, Global};
 
@@ -207,7 +207,7 @@ fn expressions_are_pure_and_fit(rt: HostRuntime) {
 
 fn caller(alloc: Global, next: u32) -> Result<Function, AllocError> {
     Ok(Function {
-        name: Name::from_str(alloc, "f")?,
+        name: Symbol::from_str(alloc, "f")?,
         params: 0,
         body: Core::Apply(FunId(next), Items::new(alloc)),
     })

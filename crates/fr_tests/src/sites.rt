@@ -1,5 +1,5 @@
 use fr_core::{Low, LowFunction, LowItem, Lowered};
-use fr_value::{KernId, Name, SiteId, Value};
+use fr_value::{KernId, SiteId, Symbol, Value};
 use sqlite_items::{Boxed, Items};
 use std::alloc::{AllocError, Global};
 
@@ -15,7 +15,7 @@ fn choice(alloc: Global, number: u32, yes: Boxed<Low>) -> Result<Low, AllocError
 
 /// A function whose body is a choice of site 10.
 fn functions(alloc: Global) -> Result<Items<LowFunction>, AllocError> {
-    let name = Name::from_str(alloc, "f")?;
+    let name = Symbol::from_str(alloc, "f")?;
     let body = choice(alloc, 10, part(alloc, 1)?)?;
     let mut functions = Items::new(alloc);
     functions.push(LowFunction {
@@ -28,7 +28,7 @@ fn functions(alloc: Global) -> Result<Items<LowFunction>, AllocError> {
 
 /// A shown value: a choice of site 20 in the second part of one of site 30, in a handler's event.
 fn body(alloc: Global) -> Result<Items<LowItem>, AllocError> {
-    let name = Name::from_str(alloc, "y")?;
+    let name = Symbol::from_str(alloc, "y")?;
     let inner = Boxed::new(alloc, choice(alloc, 20, part(alloc, 1)?)?)?;
     let event = Boxed::new(alloc, choice(alloc, 30, inner)?)?;
     let mut body = Items::new(alloc);
