@@ -4,4 +4,3 @@ pub mod Ascii
 pub mod Sizes
 pub mod Decided
 pub mod Printed
-pub mod Inside

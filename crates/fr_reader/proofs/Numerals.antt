@@ -20,13 +20,13 @@ numeral_of ds h =
     let p : (nat_lt 0 (length ds) ≡ true) × (all_ascii_digits ds ≡ true) = and_parts _ _ h in
     (grind (arith, nat_tests), own.to ds p.1)
 
-numeral_from : (ds : List ℕ) → IsNumeral 10 ds → is_numeral ds ≡ true
+pub numeral_from : (ds : List ℕ) → IsNumeral 10 ds → is_numeral ds ≡ true
 numeral_from ds h =
     let p : all_ascii_digits ds ≡ true = own.from ds h.1 in
     let q : nat_lt 0 (length ds) ≡ true = grind (arith, nat_tests) in
     rw (p, q) refl
 
-fits_of : (z : ℤ) → fits z ≡ true → FitsSigned w64 z
+pub fits_of : (z : ℤ) → fits z ≡ true → FitsSigned w64 z
 fits_of (pos n) h = record { sfits = grind (arith, nat_tests) }
 fits_of (negsuc n) h = record { sfits = grind (arith, nat_tests) }
 

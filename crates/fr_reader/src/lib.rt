@@ -6,4 +6,5 @@ mod bytes;
 mod front;
 mod reader;
 
+pub use bytes::is_blank;
 pub use reader::{OneStop, ReadStop, one_reading, printed_text_reads, read_all, read_one};

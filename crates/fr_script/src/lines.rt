@@ -2,10 +2,10 @@
 
 ghost use Rattle.std.specs.Prelude.{◌≡◌, ◌≤◌, ◌||◌, ◌==◌, ◌^◌, ◌-◌, min, true, false, None, Some, MatchOption, IfSome, length};
 ghost use Rattle.std.specs.Str.Parse.{digits_value};
-ghost use Rattle.fr_value.specs.Bytes.{is_blank};
 ghost use Rattle.fr_value.specs.Grammar.{is_numeral};
 ghost use Rattle.fr_script.specs.Lines.{is_blank_line, past_spaces, field, past_field, has_more, fields, AreFields};
 
+use fr_reader::is_blank;
 use fr_value::symbol;
 
 /// Whether a line holds only tabs, carriage returns and spaces, or these and then a `;`.
@@ -49,12 +49,6 @@ fn field(bytes: &[u8]) -> (&[u8], &[u8])
         }
     }
     bytes.split_at(bytes.len())
-}
-
-fn is_blank(b: u8) -> bool
-    ensures { result ≡ is_blank b }
-{
-    b == b'\t' || b == b'\n' || b == b'\r' || b == b' '
 }
 
 /// Whether some byte isn't blank.

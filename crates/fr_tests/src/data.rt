@@ -196,7 +196,7 @@ const READ: &[Row] = &[
 #[test]
 fn texts_read(rt: HostRuntime) {
     assert_eq!(rt; wrong(rt.alloc(), READ), 0);
-    printed_text_reads();
+    printed_text_reads(&Value::Bool(true));
     one_reading();
 }
 
