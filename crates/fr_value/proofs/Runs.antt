@@ -4,10 +4,9 @@ use Rattle.std.proofs.Math.Numerals.{one-add}
 use Rattle.std.proofs.Math.Seq.{take-add}
 use Rattle.std.proofs.lemmas.List.{length-map, length-drop, drop-append-le, take-append-le, drop_all, take_all, append-nil, drop-map, take-map, take-append-drop, map-append}
 use Rattle.std.specs.List.{slice_get}
-use Rattle.std.specs.Borrow.{Bor}
 use Rattle.fr_value.specs.declared.value.Value.{Value}
 use Rattle.fr_value.specs.declared.value.Datum.{Datum}
-use Rattle.fr_value.specs.Data.{datum_of, data_of, data_size, datum_one, value_of, value_of-datum_of, total-append, tree_data, seen, IsRun}
+use Rattle.fr_value.specs.Data.{datum_of, data_of, data_size, datum_one, value_of, value_of-datum_of, total-append, tree_data, IsRun}
 use Rattle.fr_value.proofs.Lists.{at_front}
 
 values_back : (vs : List Value) → map value_of (data_of vs) ≡ vs
@@ -153,7 +152,3 @@ taken_smaller vs n = omega (arith, ap data_size (ap data_of (sym (take-append-dr
 -- the values of a run were added
 pub with_run : (out mid new : List Value) (w v : Value) (vs : List Value) → mid ≡ out ++ w ∷ [] → w ≡ v → new ≡ mid ++ vs → data_of new ≡ data_of out ++ data_of (v ∷ vs)
 with_run out mid new w v vs h e k = rw (k, h, e, append_assoc out (v ∷ []) vs, map-append datum_of out (v ∷ vs)) refl
-
--- references to them were
-pub seen_run : (out mid : List (Bor Value)) (new : List (Bor Value)) (v : Bor Value) (vs : List Value) → mid ≡ out ++ v ∷ [] → seen new ≡ seen mid ++ data_of vs → seen new ≡ seen out ++ data_of (v.now ∷ vs)
-seen_run out mid new v vs h k = k ∙ ap (λ x. x ++ data_of vs) (ap seen h ∙ map-append (λ (b : Bor Value). datum_of b.now) out (v ∷ [])) ∙ append_assoc (seen out) (datum_of v.now ∷ []) (data_of vs)

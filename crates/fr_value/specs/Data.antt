@@ -6,7 +6,6 @@ use Rattle.fr_value.specs.declared.value.Datum.TheOpen.{Datum-F}
 use Rattle.fr_value.specs.declared.value.Datum.TheVariants as datum
 use Rattle.fr_value.specs.declared.value.Datum.TheVariants.{rolls-Int, rolls-Bool, rolls-Sym, rolls-Str, rolls-Seq}
 use Rattle.std.proofs.Common.{sym, ◌∙◌, ap, subst, arith}
-use Rattle.std.specs.Borrow.{Bor}
 use Rattle.fr_value.specs.Valid.{are_valid}
 use Rattle.fr_value.specs.declared.value.Value.{Value}
 use Rattle.fr_value.specs.declared.value.Value.TheVariants as value
@@ -27,10 +26,6 @@ datum_of (value.List ds) = datum.Seq ds
 -- the data that values are
 abbrev pub data_of : List Value → List Datum
 data_of vs = map datum_of vs
-
--- the data that values behind references are
-abbrev pub seen : List (Bor Value) → List Datum
-seen vs = map (λ v. datum_of v.now) vs
 
 -- the data of two trees
 abbrev pub kids_data : Kids → List Datum

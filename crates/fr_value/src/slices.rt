@@ -1,7 +1,7 @@
 //! Items that lie side by side.
 
 ghost use Rattle.std.specs.Prelude.{◌≡◌, ◌+◌, ◌<◌, ◌++◌, true, length, IfOk, OnOk, MatchOption};
-ghost use Rattle.fr_value.specs.Data.{data_of, data_size, data_depth, AreFew, IsMeasured, IsRun, seen};
+ghost use Rattle.fr_value.specs.Data.{data_of, data_size, data_depth, AreFew, IsMeasured, IsRun};
 ghost use Rattle.fr_value.specs.Valid.{are_valid};
 
 use crate::bounds::{MAX_DEPTH, MAX_SIZE};
@@ -68,16 +68,6 @@ pub(crate) fn joined(
     push_shared(&mut v, first)?;
     push_shared(&mut v, others)?;
     Ok(v)
-}
-
-/// Appends a reference to each item.
-pub(crate) fn push_all<'a>(out: &mut Vec<&'a Value>, items: &'a [Value]) -> Result<(), AllocError>
-    ensures { OnOk result (seen out.new.items ≡ seen out.old.items ++ data_of items.now) }
-{
-    for x in items {
-        out.push(x)?;
-    }
-    Ok(())
 }
 
 /// The item at an index, and the items behind it.

@@ -2,10 +2,10 @@
 
 ghost use Rattle.std.specs.Prelude.{◌≡◌, ◌<◌, ◌++◌, length, IfOk, OnOk, slice_get, Some};
 ghost use Rattle.std.specs.Option.{option_copied, option_map};
-ghost use Rattle.fr_value.specs.Data.{data_of, datum_of, AreFew, IsRun, seen};
+ghost use Rattle.fr_value.specs.Data.{data_of, datum_of, AreFew, IsRun};
 
 use crate::list::{List, More};
-use crate::slices::{push_all, push_shared, run_of};
+use crate::slices::{push_shared, run_of};
 use crate::value::Value;
 use std::alloc::{AllocError, Global};
 
@@ -69,21 +69,6 @@ impl List {
             at += 1 + others.len();
         }
         Ok(())
-    }
-
-    /// The items in their order.
-    pub fn items(&self, alloc: Global) -> Result<Vec<&Value>, AllocError>
-        ensures { IfOk result (λ v. seen v.items ≡ self.now) }
-    {
-        let mut all = Vec::with_capacity(alloc, self.len())?;
-        let mut at = 0;
-        while at < self.len() {
-            let (first, others) = self.run(at);
-            all.push(first)?;
-            push_all(&mut all, others)?;
-            at += 1 + others.len();
-        }
-        Ok(all)
     }
 
     /// One more owner of each item, in their order.
