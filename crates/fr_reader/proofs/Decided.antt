@@ -1,6 +1,6 @@
 -- Whether a text reads as one datum can be decided. This is no definition of readings: the grammar says what one is.
-use Rattle.std.specs.Prelude.{ℕ, suc, zero, Bool, true, false, ◌&&◌, ◌==◌, ◌+◌, ◌≤◌, ◌<◌, ◌≡◌, ◌⊎◌, List, [], ◌∷◌, length, Option, Some, None}
-use Rattle.std.specs.Str.{IsUtf8, is_utf8}
+use Rattle.std.specs.Prelude.{ℕ, suc, zero, Bool, true, false, ◌&&◌, ◌==◌, ◌+◌, ◌<◌, ◌≡◌, ◌⊎◌, List, [], ◌∷◌, length, Some, None}
+use Rattle.std.specs.Str.{is_utf8}
 use Rattle.std.specs.Str.Parse.{signed_digits_value}
 use Rattle.std.proofs.Common.{refl, inl, inr, sym, ◌∙◌, ap, subst, arith}
 use Rattle.std.proofs.lemmas.Bool.{and_parts}
@@ -18,7 +18,7 @@ use Rattle.fr_reader.proofs.Sizes.{gap_less, begins_small}
 use Rattle.fr_reader.proofs.Steps.{heads, too_big, stuck, quote_too_big, not_one}
 
 -- something is so, or nothing is
-abbrev pub Found : {A : Type 0} → (A → Type 0) → Type 0
+abbrev Found : {A : Type 0} → (A → Type 0) → Type 0
 Found {A} P = ((x : A) × P x) ⊎ ((x : A) → P x → ⊥)
 
 -- a datum begins here, and this is left behind it, or none does

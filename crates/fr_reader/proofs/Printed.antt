@@ -1,5 +1,5 @@
 -- What is printed reads again.
-use Rattle.std.specs.Prelude.{ℕ, suc, zero, Bool, true, false, ◌||◌, ◌&&◌, ◌==◌, ◌+◌, ◌≡◌, ◌≢◌, ◌<◌, ◌≤◌, not, nat_le, cond, List, [], ◌∷◌, ◌++◌, map, Some, ℤ, pos, negsuc, neg_ℤ}
+use Rattle.std.specs.Prelude.{ℕ, suc, zero, true, false, ◌||◌, ◌&&◌, ◌==◌, ◌≡◌, ◌≢◌, ◌<◌, ◌≤◌, not, nat_le, List, [], ◌∷◌, ◌++◌, map, Some, ℤ, pos, negsuc, neg_ℤ}
 use Rattle.std.specs.Int.{IsInRange}
 use Rattle.std.specs.Fmt.{decimal, signed_decimal}
 use Rattle.std.specs.Str.{is_utf8}
@@ -17,8 +17,8 @@ use Rattle.fr_value.specs.declared.value.Datum.TheVariants as datum
 use Rattle.fr_value.specs.declared.value.Datum.TheVariants.{rolls-Int, rolls-Bool, rolls-Sym, rolls-Str, rolls-Seq}
 use Rattle.fr_value.specs.Bytes.{is_blank, is_delimiter, past_gap, atom, past_atom, string, is_symbol_byte, are_symbol_bytes, begins_with_digit, without, is_empty, is_name, is_short}
 use Rattle.fr_value.specs.Valid.{fits, is_valid, are_valid, valid-Int, valid-Sym, valid-Str, valid-Seq}
-use Rattle.fr_value.specs.Data.{AreFew, datum_size, datum_depth, data_size, data_depth, total, greatest, seq_size, seq_depth}
-use Rattle.fr_value.specs.Grammar.{Begins, Items, Layer, IsAtom, begins, ReadsOne, is_true, is_false, is_numeral, is_integer}
+use Rattle.fr_value.specs.Data.{AreFew, datum_size, datum_depth, total, greatest, seq_size, seq_depth}
+use Rattle.fr_value.specs.Grammar.{Begins, Items, Layer, IsAtom, begins, ReadsOne, is_true, is_false, is_integer}
 use Rattle.fr_value.specs.Text.{escaped, spaced, spaced_behind, datum_text, text-Seq, text-Str, text-Sym, text-Int, text-Bool}
 use Rattle.fr_value.proofs.Meet.{no_atom}
 use Rattle.fr_reader.proofs.Steps.{as_atom}
@@ -49,7 +49,7 @@ unfolding past_gap
 bare b t h k = rw (h, k) refl
 
 -- a delimiter or the end comes next
-abbrev pub IsDelimited : List ℕ → Type 0
+abbrev IsDelimited : List ℕ → Type 0
 IsDelimited [] = Unit {0}
 IsDelimited (b ∷ bs) = is_delimiter b ≡ true
 
@@ -74,7 +74,7 @@ unfolding past_gap
 past_space t = refl
 
 -- the printed text of a datum reads as it where a delimiter follows, and has no blank in front
-abbrev pub Again : Begins → Datum → Type 0
+abbrev Again : Begins → Datum → Type 0
 Again one d = (more : List ℕ) → IsDelimited more → (past_gap (datum_text d ++ more) ≡ datum_text d ++ more) × one (datum_text d ++ more) d more
 
 abbrev EachAgain : Begins → List Datum → Type 0
