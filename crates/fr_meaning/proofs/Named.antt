@@ -1,82 +1,48 @@
--- The variables that each form names.
-use Rattle.std.proofs.Common.{◌≡◌, ℕ, List, [], ◌∷◌, ◌++◌, map, sym, ap, ◌∙◌}
-use Rattle.fr_value.specs.declared.ids.FunId.{FunId}
-use Rattle.fr_value.specs.declared.ids.VarId.{VarId}
-use Rattle.fr_value.specs.declared.primitive.Primitive.{Primitive}
-use Rattle.fr_core.specs.declared.core_form.Core.{Core, fold-Core, fold-roll-Core}
+-- The variables and the sources that an expression names, and what holds of each of its parts.
+use Rattle.std.proofs.Common.{◌≡◌, ℕ, List, [], ◌∷◌, ◌++◌, map, refl, ◌∙◌, subst}
+use Rattle.fr_core.specs.Shapes.{outer, parts_in}
+use Rattle.fr_core.specs.declared.core_form.Core.{Core, out-Core, fold_out-Core, map-Core}
 use Rattle.fr_core.specs.declared.core_form.Core.TheOpen.{Core-F}
-use Rattle.fr_core.specs.declared.core_form.Core.TheVariants as core
-use Rattle.fr_core.specs.declared.core_form.Core.TheVariants.{rolls-Var, rolls-Let, rolls-If, rolls-Apply, rolls-PrimApp, rolls-Fold, rolls-Repeat, rolls-MapE, rolls-FilterE, rolls-MergeE, rolls-Hold, rolls-CollectB, rolls-CollectE, rolls-Changes, rolls-OnceE, rolls-Delay, rolls-DelayE, rolls-Feedback}
-use Rattle.fr_meaning.specs.Dependence.{joined, variables_step, variables}
+use Rattle.fr_core.proofs.Parts.{parts_in-map}
+use Rattle.fr_core.proofs.PartLists.{parts-outer}
+use Rattle.fr_core.proofs.Folds.{Each}
+use Rattle.fr_meaning.specs.Dependence.{joined, own_variable, variables_step, variables, own_source, sources_step, sources_of, AgreeAt}
 
-pub variables-Var : (x : VarId) → variables (core.Var x) ≡ x.0 ∷ []
-unfolding variables
-variables-Var x = ap (fold-Core (List ℕ) variables_step) (sym (rolls-Var x)) ∙ fold-roll-Core (List ℕ) variables_step (Core-F.Var x)
+own_variable-map : {X Y : Type 0} (f : X → Y) (l : Core-F X) → own_variable (map-Core X Y f l) ≡ own_variable l
+own_variable-map f (Core-F.Var x) = refl
+own_variable-map f _ = refl
 
-pub variables-Let : (es : List Core) (b : Core) → variables (core.Let es b) ≡ joined (map variables es) ++ variables b
-unfolding variables
-variables-Let es b = ap (fold-Core (List ℕ) variables_step) (sym (rolls-Let es b)) ∙ fold-roll-Core (List ℕ) variables_step (Core-F.Let es b)
+own_source-map : {X Y : Type 0} (f : X → Y) (l : Core-F X) → own_source (map-Core X Y f l) ≡ own_source l
+own_source-map f (Core-F.Source s) = refl
+own_source-map f _ = refl
 
-pub variables-If : (a : Core) (b : Core) (c : Core) → variables (core.If a b c) ≡ variables a ++ variables b ++ variables c
+pub variables-opens : (e : Core) → variables e ≡ own_variable (out-Core e) ++ joined (map variables (parts_in (out-Core e)))
 unfolding variables
-variables-If a b c = ap (fold-Core (List ℕ) variables_step) (sym (rolls-If a b c)) ∙ fold-roll-Core (List ℕ) variables_step (Core-F.If a b c)
+variables-opens e = fold_out-Core (List ℕ) variables_step e ∙ rw (own_variable-map variables (out-Core e), parts_in-map variables (out-Core e)) refl
 
-pub variables-Apply : (f : FunId) (es : List Core) → variables (core.Apply f es) ≡ joined (map variables es)
-unfolding variables
-variables-Apply f es = ap (fold-Core (List ℕ) variables_step) (sym (rolls-Apply f es)) ∙ fold-roll-Core (List ℕ) variables_step (Core-F.Apply f es)
+pub sources-opens : (e : Core) → sources_of e ≡ own_source (out-Core e) ++ joined (map sources_of (parts_in (out-Core e)))
+unfolding sources_of
+sources-opens e = fold_out-Core (List ℕ) sources_step e ∙ rw (own_source-map sources_of (out-Core e), parts_in-map sources_of (out-Core e)) refl
 
-pub variables-PrimApp : (p : Primitive) (es : List Core) → variables (core.PrimApp p es) ≡ joined (map variables es)
-unfolding variables
-variables-PrimApp p es = ap (fold-Core (List ℕ) variables_step) (sym (rolls-PrimApp p es)) ∙ fold-roll-Core (List ℕ) variables_step (Core-F.PrimApp p es)
+-- lists that agree at what all parts name agree at what each of them names
 
-pub variables-Fold : (a : Core) (b : Core) (c : Core) → variables (core.Fold a b c) ≡ variables a ++ variables b ++ variables c
-unfolding variables
-variables-Fold a b c = ap (fold-Core (List ℕ) variables_step) (sym (rolls-Fold a b c)) ∙ fold-roll-Core (List ℕ) variables_step (Core-F.Fold a b c)
+pub both_agree : {X : Type 0} (ms ns : List ℕ) (xs others : List X) → AgreeAt (ms ++ ns) xs others → AgreeAt ms xs others × AgreeAt ns xs others
+both_agree [] ns xs others h = (tt, h)
+both_agree (m ∷ ms) ns xs others h = let t = both_agree ms ns xs others h.1 in ((h.0, t.0), t.1)
 
-pub variables-Repeat : (a : Core) (b : Core) (c : Core) → variables (core.Repeat a b c) ≡ variables a ++ variables b ++ variables c
-unfolding variables
-variables-Repeat a b c = ap (fold-Core (List ℕ) variables_step) (sym (rolls-Repeat a b c)) ∙ fold-roll-Core (List ℕ) variables_step (Core-F.Repeat a b c)
+pub each_agree : {X : Type 0} (named : Core → List ℕ) (xs others : List X) (es : List Core) → AgreeAt (joined (map named es)) xs others → Each (λ e. AgreeAt (named e) xs others) es
+each_agree named xs others [] h = tt
+each_agree named xs others (e ∷ es) h = let t = both_agree (named e) (joined (map named es)) xs others h in (t.0, each_agree named xs others es t.1)
 
-pub variables-MapE : (a : Core) (b : Core) → variables (core.MapE a b) ≡ variables a ++ variables b
-unfolding variables
-variables-MapE a b = ap (fold-Core (List ℕ) variables_step) (sym (rolls-MapE a b)) ∙ fold-roll-Core (List ℕ) variables_step (Core-F.MapE a b)
+pub always_agree : {X : Type 0} (ns : List ℕ) (xs : List X) → AgreeAt ns xs xs
+always_agree [] xs = tt
+always_agree (n ∷ ns) xs = (refl, always_agree ns xs)
 
-pub variables-FilterE : (a : Core) (b : Core) → variables (core.FilterE a b) ≡ variables a ++ variables b
-unfolding variables
-variables-FilterE a b = ap (fold-Core (List ℕ) variables_step) (sym (rolls-FilterE a b)) ∙ fold-roll-Core (List ℕ) variables_step (Core-F.FilterE a b)
+-- the parts are a list, or a list with a body behind it
 
-pub variables-MergeE : (es : List Core) → variables (core.MergeE es) ≡ joined (map variables es)
-unfolding variables
-variables-MergeE es = ap (fold-Core (List ℕ) variables_step) (sym (rolls-MergeE es)) ∙ fold-roll-Core (List ℕ) variables_step (Core-F.MergeE es)
+pub each_outer : (P : Core → Type 0) (es : List Core) → Each P (map (λ (x : ℕ × Core). x.1) (outer es)) → Each P es
+each_outer P es h = subst (Each P) (parts-outer es) h
 
-pub variables-Hold : (a : Core) (b : Core) → variables (core.Hold a b) ≡ variables a ++ variables b
-unfolding variables
-variables-Hold a b = ap (fold-Core (List ℕ) variables_step) (sym (rolls-Hold a b)) ∙ fold-roll-Core (List ℕ) variables_step (Core-F.Hold a b)
-
-pub variables-CollectB : (a : Core) (b : Core) (c : Core) → variables (core.CollectB a b c) ≡ variables a ++ variables b ++ variables c
-unfolding variables
-variables-CollectB a b c = ap (fold-Core (List ℕ) variables_step) (sym (rolls-CollectB a b c)) ∙ fold-roll-Core (List ℕ) variables_step (Core-F.CollectB a b c)
-
-pub variables-CollectE : (a : Core) (b : Core) (c : Core) → variables (core.CollectE a b c) ≡ variables a ++ variables b ++ variables c
-unfolding variables
-variables-CollectE a b c = ap (fold-Core (List ℕ) variables_step) (sym (rolls-CollectE a b c)) ∙ fold-roll-Core (List ℕ) variables_step (Core-F.CollectE a b c)
-
-pub variables-Changes : (a : Core) → variables (core.Changes a) ≡ variables a
-unfolding variables
-variables-Changes a = ap (fold-Core (List ℕ) variables_step) (sym (rolls-Changes a)) ∙ fold-roll-Core (List ℕ) variables_step (Core-F.Changes a)
-
-pub variables-OnceE : (a : Core) → variables (core.OnceE a) ≡ variables a
-unfolding variables
-variables-OnceE a = ap (fold-Core (List ℕ) variables_step) (sym (rolls-OnceE a)) ∙ fold-roll-Core (List ℕ) variables_step (Core-F.OnceE a)
-
-pub variables-Delay : (a : Core) (b : Core) → variables (core.Delay a b) ≡ variables a ++ variables b
-unfolding variables
-variables-Delay a b = ap (fold-Core (List ℕ) variables_step) (sym (rolls-Delay a b)) ∙ fold-roll-Core (List ℕ) variables_step (Core-F.Delay a b)
-
-pub variables-DelayE : (a : Core) → variables (core.DelayE a) ≡ variables a
-unfolding variables
-variables-DelayE a = ap (fold-Core (List ℕ) variables_step) (sym (rolls-DelayE a)) ∙ fold-roll-Core (List ℕ) variables_step (Core-F.DelayE a)
-
-pub variables-Feedback : (a : Core) (b : Core) → variables (core.Feedback a b) ≡ variables a ++ variables b
-unfolding variables
-variables-Feedback a b = ap (fold-Core (List ℕ) variables_step) (sym (rolls-Feedback a b)) ∙ fold-roll-Core (List ℕ) variables_step (Core-F.Feedback a b)
+pub each_body : (P : Core → Type 0) (es : List Core) (n : ℕ) (b : Core) → Each P (map (λ (x : ℕ × Core). x.1) (outer es ++ (n, b) ∷ [])) → Each P es × P b
+each_body P [] n b h = (tt, h.0)
+each_body P (e ∷ es) n b h = let t = each_body P es n b h.1 in ((h.0, t.0), t.1)

@@ -1,5 +1,5 @@
 -- Parts and items that are evaluated before others don't depend on them.
-use Rattle.std.proofs.Common.{◌≡◌, ℕ, ◌+◌, List, [], ◌∷◌, ◌++◌, length, refl, ap, ◌∙◌, arith, Some, None}
+use Rattle.std.proofs.Common.{◌≡◌, ℕ, ◌+◌, List, [], ◌∷◌, ◌++◌, length, refl, arith, Some, None}
 use Rattle.std.specs.Option.{option_or}
 use Rattle.std.proofs.lemmas.List.{append_assoc, append-nil}
 use Rattle.fr_core.specs.declared.core_form.Core.{Core}
@@ -8,7 +8,7 @@ use Rattle.fr_core.specs.declared.program.Item.{Item}
 use Rattle.fr_core.specs.declared.program.Item.TheVariants as item
 use Rattle.fr_meaning.specs.Words.{Seen, Env, First, Done, under}
 use Rattle.fr_meaning.specs.Cells.{child}
-use Rattle.fr_meaning.specs.Evaluation.{Ev, parts, join_part}
+use Rattle.fr_meaning.specs.Evaluation.{Ev, parts}
 use Rattle.fr_meaning.specs.Afresh.{Evaluated, items, join_item}
 use Rattle.fr_meaning.specs.Dependence.{parts_followed, bound, followed}
 
@@ -27,10 +27,9 @@ parts_split ev env k i (e ∷ es) others =
     let d = ev e env (child k i) in
     let number : i + 1 + length es ≡ i + length (e ∷ es) = omega arith in
     let a = parts ev env k (i + 1) es in
-    let b = parts ev env k (i + 1 + length es) others in
+    let b = parts ev env k (i + length (e ∷ es)) others in
     let cost : d.cost + (a.cost + b.cost) ≡ d.cost + a.cost + b.cost = omega arith in
-    let joins : join_part i d (parts_followed a b) ≡ parts_followed (join_part i d a) b = rw (cost, first_of_three (under i d.first) a.first b.first) refl in
-    ap (join_part i d) (parts_split ev env k (i + 1) es others) ∙ joins ∙ ap (λ n. parts_followed (join_part i d a) (parts ev env k n others)) number
+    rw (parts_split ev env k (i + 1) es others, number, cost, first_of_three (under i d.first) a.first b.first) refl
 
 join_followed : (i : ℕ) (shown : List Seen) (d : Done) (a b : Evaluated) → join_item i shown d (followed a b) ≡ followed (join_item i shown d a) b
 join_followed i shown d a b =
@@ -49,14 +48,9 @@ items_split ev env k i (item.Define e ∷ is) js =
     let inner = env ++ d.value ∷ [] in
     let vs = bound ev inner k (i + 1) is in
     let number : i + 1 + length is ≡ i + length (item.Define e ∷ is) = omega arith in
-    let a = items ev inner k (i + 1) is in
-    ap (join_item i [] d) (items_split ev inner k (i + 1) is js) ∙ join_followed i [] d a (items ev (inner ++ vs) k (i + 1 + length is) js)
-    ∙ ap (λ n. followed (join_item i [] d a) (items ev (inner ++ vs) k n js)) number
-    ∙ ap (λ env. followed (join_item i [] d a) (items ev env k (i + length (item.Define e ∷ is)) js)) (append_assoc env (d.value ∷ []) vs)
+    rw (items_split ev inner k (i + 1) is js, append_assoc env (d.value ∷ []) vs, number) (join_followed i [] d (items ev inner k (i + 1) is) (items ev (env ++ d.value ∷ vs) k (i + length (item.Define e ∷ is)) js))
 items_split ev env k i (item.Show name e ∷ is) js =
     let d = ev e env (child k i) in
     let vs = bound ev env k (i + 1) is in
     let number : i + 1 + length is ≡ i + length (item.Show name e ∷ is) = omega arith in
-    let a = items ev env k (i + 1) is in
-    ap (join_item i (d.value ∷ []) d) (items_split ev env k (i + 1) is js) ∙ join_followed i (d.value ∷ []) d a (items ev (env ++ vs) k (i + 1 + length is) js)
-    ∙ ap (λ n. followed (join_item i (d.value ∷ []) d a) (items ev (env ++ vs) k n js)) number
+    rw (items_split ev env k (i + 1) is js, number) (join_followed i (d.value ∷ []) d (items ev env k (i + 1) is) (items ev (env ++ vs) k (i + length (item.Show name e ∷ is)) js))

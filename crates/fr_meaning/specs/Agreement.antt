@@ -11,6 +11,10 @@ pub record Agree (a b : Done) : Type 0 where
   pub cost : a.cost ≡ b.cost
   pub first : a.first ≡ b.first
 
--- an expression's evaluation doesn't depend on its kept tree: at every nest and over every environment it answers the same over any two
+-- an expression's evaluation is the same in two worlds, whatever is kept: at every nest and over every environment it answers the same over any two kept trees
+abbrev pub IsSteadyOver : World → World → Core → Type 0
+IsSteadyOver w w' e = (nest : ℕ) (env : Env) (k k' : Kept) → Agree (eval w nest e env k) (eval w' nest e env k')
+
+-- an expression's evaluation doesn't depend on its kept tree
 abbrev pub IsSteady : World → Core → Type 0
-IsSteady w e = (nest : ℕ) (env : Env) (k k' : Kept) → Agree (eval w nest e env k) (eval w nest e env k')
+IsSteady w e = IsSteadyOver w w e

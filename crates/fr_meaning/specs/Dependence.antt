@@ -1,4 +1,4 @@
--- What an evaluation depends on: the variables that an expression names, and the values that earlier items bind.
+-- What an evaluation depends on: the variables and the sources that an expression names, and the values that earlier items bind.
 use Rattle.std.specs.Prelude.{ℕ, ◌+◌, ◌≡◌, List, [], ◌∷◌, ◌++◌, slice_get}
 use Rattle.std.specs.Option.{option_or}
 use Rattle.fr_core.specs.declared.core_form.Core.{Core, fold-Core}
@@ -30,10 +30,23 @@ variables_step f = own_variable f ++ joined (parts_in f)
 unfoldable pub variables : Core → List ℕ
 variables = fold-Core (List ℕ) variables_step
 
--- each of these variables has the same value in both environments, or none in either
-abbrev pub AgreeAt : List ℕ → Env → Env → Type 0
-AgreeAt [] env other = Unit {0}
-AgreeAt (x ∷ xs) env other = (slice_get env x ≡ slice_get other x) × AgreeAt xs env other
+-- the source that an expression itself is
+abbrev pub own_source : {X : Type 0} → Core-F X → List ℕ
+own_source (Core-F.Source s) = s.0 ∷ []
+own_source f = []
+
+-- the sources that an expression names, from those that its parts name
+abbrev pub sources_step : Core-F (List ℕ) → List ℕ
+sources_step f = own_source f ++ joined (parts_in f)
+
+-- the sources that an expression names, those of its handlers and loops included
+unfoldable pub sources_of : Core → List ℕ
+sources_of = fold-Core (List ℕ) sources_step
+
+-- both lists have the same at each of these numbers, or neither has anything there
+abbrev pub AgreeAt : {X : Type 0} → List ℕ → List X → List X → Type 0
+AgreeAt [] xs others = Unit {0}
+AgreeAt (n ∷ ns) xs others = (slice_get xs n ≡ slice_get others n) × AgreeAt ns xs others
 
 -- parts that were evaluated, and then others
 abbrev pub parts_followed : Parts → Parts → Parts

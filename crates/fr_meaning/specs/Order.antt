@@ -57,11 +57,15 @@ abbrev pub IsUsed : List ℕ → List Use → Type 0
 IsUsed place [] = ⊥
 IsUsed place (u ∷ us) = (u.value_at ≡ place) ⊎ IsUsed place us
 
+-- two scopes have the same places, and the same value at each place of which this holds
+abbrev pub AgreeWhere : (List ℕ → Type 0) → List Binding → List Binding → Type 0
+AgreeWhere U [] [] = Unit {0}
+AgreeWhere U (v ∷ scope) (o ∷ other) = (v.place ≡ o.place) × (U v.place → v.value ≡ o.value) × AgreeWhere U scope other
+AgreeWhere U scope other = ⊥
+
 -- two scopes have the same places, and the same value at each place that is used
 abbrev pub AgreeWhereUsed : List Use → List Binding → List Binding → Type 0
-AgreeWhereUsed us [] [] = Unit {0}
-AgreeWhereUsed us (v ∷ scope) (o ∷ other) = (v.place ≡ o.place) × (IsUsed v.place us → v.value ≡ o.value) × AgreeWhereUsed us scope other
-AgreeWhereUsed us scope other = ⊥
+AgreeWhereUsed us scope other = AgreeWhere (λ p. IsUsed p us) scope other
 
 -- the place of part number i
 abbrev pub part_at : List ℕ → ℕ → List ℕ
@@ -76,10 +80,14 @@ abbrev pub part_uses : Traces → List Binding → Kept → List ℕ → ℕ →
 part_uses trace scope k at i [] = []
 part_uses trace scope k at i (e ∷ es) = uses_part at i ∷ trace e scope (child k i) (part_at at i) ++ part_uses trace scope k at (i + 1) es
 
--- values that the parts from number i on give
-abbrev pub given : List ℕ → ℕ → List Seen → List Binding
-given at i [] = []
-given at i (v ∷ vs) = record { value = v; place = part_at at i } ∷ given at (i + 1) vs
+-- values that places give, the first of them the one of this number
+abbrev pub given : (ℕ → List ℕ) → ℕ → List Seen → List Binding
+given place i [] = []
+given place i (v ∷ vs) = record { value = v; place = place i } ∷ given place (i + 1) vs
+
+-- values that the parts give
+abbrev pub given_by_parts : List ℕ → List Seen → List Binding
+given_by_parts at vs = given (part_at at) 0 vs
 
 -- a variable uses the place that gives it
 abbrev pub variable_uses : List ℕ → Option Binding → List Use
@@ -94,7 +102,7 @@ switch_uses trace scope k at (Ok c) = record { by = part_at at c.number; value_a
 -- a function's body is in the scope of its arguments alone
 abbrev pub call_uses : Traces → Kept → List ℕ → ℕ → List Seen → Option Core → List Use
 call_uses trace k at n values None = []
-call_uses trace k at n values (Some body) = uses_part at n ∷ trace body (given at 0 values) (child k n) (part_at at n)
+call_uses trace k at n values (Some body) = uses_part at n ∷ trace body (given_by_parts at values) (child k n) (part_at at n)
 
 -- the place of turn number t of a loop, in part number n
 abbrev pub turn_at : List ℕ → ℕ → ℕ → List ℕ
@@ -106,7 +114,7 @@ turn_uses at n t inside = record { by = turn_at at n t; value_at = part_at at 1 
 
 -- the variables of a turn: the accumulator, and what the list gives
 abbrev pub turn_scope : List ℕ → Binding → List Seen → List Binding
-turn_scope at acc vs = acc ∷ map (λ v. record { value = v; place = part_at at 1 }) vs
+turn_scope at acc vs = acc ∷ given (λ i. part_at at 1) 0 vs
 
 -- the turns from number t on: the accumulator is given by the first part or by the turn before
 abbrev pub loop_uses : (List Seen → Done) → (List Binding → List ℕ → List Use) → List ℕ → ℕ → ℕ → Binding → List (List Seen) → List Use
@@ -132,7 +140,7 @@ waits at n i (suc more) = record { by = part_at at n; value_at = part_at at i } 
 -- a handler, which is part number n, is called by the parts before it, which give its arguments, and the whole uses it
 abbrev pub handler_uses : (List Binding → List ℕ → List Use) → List ℕ → ℕ → Begun → List Use
 handler_uses trace at n (known l) = []
-handler_uses trace at n (asks args) = waits at n 0 n ++ uses_part at n ∷ trace (given at 0 args) (part_at at n)
+handler_uses trace at n (asks args) = waits at n 0 n ++ uses_part at n ∷ trace (given_by_parts at args) (part_at at n)
 
 -- one case for each shape
 abbrev pub layer_uses : World → Ev → Traces → List Binding → Kept → List ℕ → Core-F Core → List Use
@@ -140,7 +148,7 @@ layer_uses w ev trace scope k at (Core-F.Lit v) = []
 layer_uses w ev trace scope k at (Core-F.Var x) = variable_uses at (slice_get scope x.0)
 layer_uses w ev trace scope k at (Core-F.Source s) = []
 layer_uses w ev trace scope k at (Core-F.Let es body) = let n = length es in
-    part_uses trace scope k at 0 es ++ uses_part at n ∷ trace body (scope ++ given at 0 (parts ev (env_of scope) k 0 es).values) (child k n) (part_at at n)
+    part_uses trace scope k at 0 es ++ uses_part at n ∷ trace body (scope ++ given_by_parts at (parts ev (env_of scope) k 0 es).values) (child k n) (part_at at n)
 layer_uses w ev trace scope k at (Core-F.If test a b) =
     part_uses trace scope k at 0 (test ∷ []) ++ switch_uses trace scope k at (choose a b (ev test (env_of scope) (child k 0)).value)
 layer_uses w ev trace scope k at (Core-F.Apply f es) =

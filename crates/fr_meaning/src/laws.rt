@@ -8,16 +8,16 @@ ghost use Rattle.fr_core.specs.declared.program.Program.{Program};
 ghost use Rattle.fr_meaning.specs.Words.{Env};
 ghost use Rattle.fr_meaning.specs.Evaluation.{World, world_of, Ev, parts, eval};
 ghost use Rattle.fr_meaning.specs.Afresh.{items, body};
-ghost use Rattle.fr_meaning.specs.Agreement.{IsSteady};
+ghost use Rattle.fr_meaning.specs.Agreement.{IsSteady, IsSteadyOver};
 ghost use Rattle.fr_meaning.specs.Places.{IsSumOver, places, body_places};
-ghost use Rattle.fr_meaning.specs.Dependence.{variables, AgreeAt, parts_followed, bound, followed};
+ghost use Rattle.fr_meaning.specs.Dependence.{variables, sources_of, AgreeAt, parts_followed, bound, followed};
 ghost use Rattle.fr_meaning.specs.Order.{EndsBefore, AreInOrder, Binding, AreReady, AgreeWhereUsed, env_of, uses, body_uses};
 
 /// A pure expression's evaluation doesn't depend on its kept tree: value, cost and first error are the same over any
-/// two.
-#[tactic(auto, using(crate::proofs::Pure::pure_is_steady))]
+/// two. Nor does it depend on a source that the expression doesn't name.
 pub fn pure_is_steady()
-    ensures { (p : Program) (sources : List Now) (e : Core) → IsPureExpr p e → IsSteady (world_of p sources) e }
+    ensures kept { (p : Program) (sources : List Now) (e : Core) → IsPureExpr p e → IsSteady (world_of p sources) e }
+    ensures sources { (p : Program) (sources other : List Now) (e : Core) → IsPureExpr p e → AgreeAt (sources_of e) sources other → IsSteadyOver (world_of p sources) (world_of p other) e }
 {}
 
 /// The cost of an evaluation is the sum of what the places that it evaluates cost themselves, each counted once: a call
