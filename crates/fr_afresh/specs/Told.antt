@@ -5,7 +5,7 @@ use Rattle.fr_core.specs.declared.kept.Kept.{Kept}
 use Rattle.fr_core.specs.declared.kept.Kept.TheVariants as kept
 use Rattle.fr_meaning.specs.Words.{Seen, First, Done as Evaluated, under, own}
 use Rattle.fr_meaning.specs.Cells.{with_cell}
-use Rattle.fr_meaning.specs.States.{Line}
+use Rattle.fr_meaning.specs.States.{Line, Called}
 use Rattle.fr_meaning.specs.Evaluation.{Parts as EvaluatedParts, Turns as LoopTurns, refusal_first}
 use Rattle.fr_afresh.specs.declared.joining.Done.{Done}
 use Rattle.fr_afresh.specs.declared.joining.Around.{Around}
@@ -48,6 +48,10 @@ erred a n f = record { kepts = a.kepts; first = option_or a.first (under n f) }
 abbrev pub ended_as : Seen → Around → Done
 ended_as v a = record { value = v; kept = kept.Group a.kepts; first = option_or a.first (own v) }
 
--- a form's line behind its parts, where no handler is called
+-- a form's line behind its parts
 abbrev pub lined : Around → Line → Done
-lined a l = record { value = l.value; kept = with_cell l.next (kept.Group a.kepts); first = option_or a.first (option_or (own l.value) (refusal_first l.refusal)) }
+lined a l = record { value = l.value; kept = with_cell l.next (kept.Group a.kepts); first = option_or a.first (option_or l.inner (option_or (own l.value) (refusal_first l.refusal))) }
+
+-- a handler's call that is told of so, at no cost; its body is part number n
+abbrev pub called_as : ℕ → Done → Called
+called_as n d = record { value = d.value; cost = 0; first = under n d.first }

@@ -2,23 +2,24 @@
 ghost use Rattle.std.specs.Prelude.{◌≡◌, ◌++◌, ◌∷◌, ◌+◌, List, None, IfOk, OnOk, length, slice_get};
 ghost use Rattle.fr_meaning.specs.Words.{Env};
 ghost use Rattle.fr_meaning.specs.Cells.{child};
-ghost use Rattle.fr_meaning.specs.States.{no_call, of_operator, of_handler, of_feedback, handler_line};
-ghost use Rattle.fr_meaning.specs.Evaluation.{parts, let_done, choose, switch_done, call_done, body_for, body_with, handler as called, turns, loop_done, state_done, behind_cell, feedback_done};
+ghost use Rattle.fr_meaning.specs.States.{no_call, of_operator, of_handler, of_feedback, handler_end};
+ghost use Rattle.fr_meaning.specs.Evaluation.{parts, let_done, choose, switch_done, call_done, body_for, body_with, handler as called, turns, loop_done, state_done, behind_cell, feedback_done as fed_done};
 ghost use Rattle.fr_lines.specs.Rounds.{bound, number_of, rounds_left};
-ghost use Rattle.fr_afresh.specs.Told.{told, told_parts, erred, lined, turns_on};
+ghost use Rattle.fr_afresh.specs.Told.{told, told_parts, lined, turns_on};
 ghost use Rattle.fr_afresh.specs.Trees.{tree};
 ghost use Rattle.fr_afresh.specs.Here.{here};
 
 use crate::joining::{
-    Around, Done, Parts, Turns, choice_done, ended, handled, last_done, leaf_of, line_done,
-    no_parts, part_behind, test_behind, too_deep, turned, turns_done, untested,
+    Around, Done, Parts, Turns, choice_done, ended, feedback_done, handled, last_done, leaf_of,
+    line_done, no_parts, operator_done, part_behind, test_behind, too_deep, turned, turns_done,
+    untested,
 };
 use crate::places::{behind, bind_turn, choice_by, cut, function_body, source_at};
 use crate::trees::{kept_behind, kept_cell, kept_part, kept_under};
 use fr_core::{Core, Function, Handler, Kept, Loop, Operator};
 use fr_lines::{
-    Begun, CellKind, Round, Rounds, Seen, begin_handler, fed_value, feedback_line, handler_cell,
-    operator_cell, operator_line, rounds_of, share_part,
+    Begun, CellKind, Round, Rounds, Seen, begin_handler, fed_value, handler_cell, operator_cell,
+    rounds_of, share_part,
 };
 use fr_value::{Bad, Now, Value};
 use sqlite_items::Items;
@@ -241,9 +242,8 @@ fn eval_operator(
 {
     let kind = operator_cell(operator);
     let before = kept_behind(kind, kept);
-    let Parts { values, around } = eval_parts(alloc, at, left, env, exprs, before)?;
-    let line = operator_line(alloc, operator, kept_cell(kind, kept), values.as_slice())?;
-    line_done(alloc, around, line)
+    let parts = eval_parts(alloc, at, left, env, exprs, before)?;
+    operator_done(alloc, operator, kept_cell(kind, kept), parts)
 }
 
 #[cycle(eval)]
@@ -282,7 +282,7 @@ fn eval_asked(
     around: Around,
     args: Items<Seen>,
 ) -> Result<Done, AllocError>
-    ensures value { IfOk result (λ d. d ≡ (let b = body_with (here at.now left) env.old body.now args in lined (erred around number b.first) (handler_line handler args b.value))) }
+    ensures value { IfOk result (λ d. d ≡ lined around (handler_end handler args (called (here at.now left) env.old number body.now args))) }
     ensures env { OnOk result (env.new ≡ env.old) }
 {
     let outer = env.len();
@@ -382,7 +382,7 @@ fn eval_feedback(
     body: &Core,
     kept: Option<&Kept>,
 ) -> Result<Done, AllocError>
-    ensures value { IfOk result (λ d. d ≡ told (feedback_done (here at.now left) env.old (tree kept.entry) (here at.now left init.now env.old (child (behind_cell of_feedback (tree kept.entry)) 0)) body.now)) }
+    ensures value { IfOk result (λ d. d ≡ told (fed_done (here at.now left) env.old (tree kept.entry) (here at.now left init.now env.old (child (behind_cell of_feedback (tree kept.entry)) 0)) body.now)) }
     ensures env { OnOk result (env.new ≡ env.old) }
 {
     let before = kept_behind(CellKind::KeepsDatum, kept);
@@ -393,7 +393,5 @@ fn eval_feedback(
     env.push(fed_value(cell, parts.values.as_slice())?)?;
     let done = eval(alloc, at, left, env, body, kept_part(before, 1))?;
     cut(env, outer);
-    let Parts { values, around } = part_behind(parts, 1, done)?;
-    let line = feedback_line(cell, values.as_slice())?;
-    line_done(alloc, around, line)
+    feedback_done(alloc, cell, parts, done)
 }

@@ -2,14 +2,14 @@
 ghost use Rattle.std.specs.Prelude.{◌≡◌, ◌++◌, ◌∷◌, [], IfOk, OnOk, Err, None};
 ghost use Rattle.std.specs.Option.{option_or};
 ghost use Rattle.fr_meaning.specs.Words.{under, own};
-ghost use Rattle.fr_meaning.specs.States.{handler_line};
+ghost use Rattle.fr_meaning.specs.States.{handler_end, state_now, of_operator, of_feedback, no_call};
 ghost use Rattle.fr_meaning.specs.Cells.{with_cell};
 ghost use Rattle.fr_meaning.specs.Evaluation.{leaf, deep, refusal_first};
-ghost use Rattle.fr_lines.specs.Lent.{next_of, line_of};
-ghost use Rattle.fr_afresh.specs.Told.{told, unbegun_around, with_part, joined, erred, ended_as, lined};
+ghost use Rattle.fr_lines.specs.Lent.{earlier, next_of, line_of};
+ghost use Rattle.fr_afresh.specs.Told.{told, unbegun_around, with_part, joined, erred, ended_as, lined, called_as};
 
-use fr_core::{Handler, Kept, Key, Path};
-use fr_lines::{Cell, Line, Seen, end_handler};
+use fr_core::{Handler, Kept, Key, Operator, Path};
+use fr_lines::{Cell, LentCell, Line, Seen, end_handler, feedback_line, operator_line};
 use fr_value::Bad;
 use sqlite_items::{Boxed, Items};
 use std::alloc::{AllocError, Global};
@@ -298,6 +298,34 @@ pub fn line_done(alloc: Global, around: Around, line: Line) -> Result<Done, Allo
     })
 }
 
+/// An operator behind its parts. It fails only where there is no memory.
+pub fn operator_done(
+    alloc: Global,
+    operator: Operator,
+    cell: Option<LentCell<'_>>,
+    parts: Parts,
+) -> Result<Done, AllocError>
+    ensures { IfOk result (λ d. d ≡ lined parts.around (state_now (of_operator operator) (earlier cell.entry) parts.values no_call)) }
+{
+    let Parts { values, around } = parts;
+    let line = operator_line(alloc, operator, cell, values.as_slice())?;
+    line_done(alloc, around, line)
+}
+
+/// A `feedback` behind its first part and its body. It fails only where there is no memory.
+pub fn feedback_done(
+    alloc: Global,
+    cell: Option<LentCell<'_>>,
+    first: Parts,
+    body: Done,
+) -> Result<Done, AllocError>
+    ensures { IfOk result (λ d. let ps = with_part first 1 body in d ≡ lined ps.around (state_now of_feedback (earlier cell.entry) ps.values no_call)) }
+{
+    let Parts { values, around } = part_behind(first, 1, body)?;
+    let line = feedback_line(cell, values.as_slice())?;
+    line_done(alloc, around, line)
+}
+
 /// A form behind its handler's call with these arguments, whose body is the part of this number. It fails only where
 /// there is no memory.
 pub fn handled(
@@ -308,7 +336,7 @@ pub fn handled(
     args: &[Seen],
     body: Done,
 ) -> Result<Done, AllocError>
-    ensures { IfOk result (λ d. d ≡ lined (erred around number body.first) (handler_line handler args.now body.value)) }
+    ensures { IfOk result (λ d. d ≡ lined around (handler_end handler args.now (called_as number body))) }
 {
     let Done { value, kept, first } = body;
     forget(kept);

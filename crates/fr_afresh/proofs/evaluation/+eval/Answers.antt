@@ -1,7 +1,13 @@
-use Rattle.std.proofs.Common.{refl, ap, ◌∙◌}
+use Rattle.std.proofs.Common.{◌≡◌, Some, None, refl, ap, ◌∙◌, arith}
+use Rattle.std.proofs.lemmas.Grind.{common_steps}
+use Rattle.std.specs.Option.{option_or}
 use Rattle.fr_core.specs.declared.core_form.Core.{out-Core}
 use Rattle.fr_core.specs.declared.core_form.Core.TheVariants.{outs-Lit, outs-Var, outs-Source, outs-Let, outs-If, outs-Apply, outs-Operator, outs-Handler, outs-Loop, outs-Feedback}
+use Rattle.fr_meaning.specs.Words.{First, Done as Evaluated, under}
+use Rattle.fr_meaning.specs.States.{Line}
+use Rattle.fr_meaning.specs.Evaluation.{join_part, no_parts, line_done}
 use Rattle.fr_meaning.proofs.Levels.{at_zero, at_level}
+use Rattle.fr_afresh.specs.Told.{told, unbegun_around, joined, lined}
 use Rattle.fr_afresh.proofs.evaluation.+eval.Goals as goal
 
 pub eval-returns-then-left-eq0-clause-value : goal.eval-returns-then-left-eq0-clause-value
@@ -47,5 +53,12 @@ pub eval-returns-in-Feedback-clause-value : goal.eval-returns-in-Feedback-clause
 eval-returns-in-Feedback-clause-value t c =
     rw (at_level c.args.left _ _ _ _ _ c.if-left-eq0.false (ap out-Core c.in-Feedback.is ∙ outs-Feedback _ _)) (rw (c.get-in-Feedback.ensures, c.get-in-Feedback-2.ensures) at c.eval_feedback.ensures.value)
 
+or_none : (f : First) → option_or f None ≡ f
+or_none None = refl
+or_none (Some f) = refl
+
+fed_alike : (x y : Evaluated) (l : Line) → lined (joined (joined unbegun_around 0 x.kept x.first) 1 y.kept y.first) l ≡ told (line_done (join_part 0 x (join_part 1 y no_parts)) l)
+fed_alike x y l = rw (or_none (under 1 y.first)) refl
+
 pub eval_feedback-returns-clause-value : goal.eval_feedback-returns-clause-value
-eval_feedback-returns-clause-value t c = ?
+eval_feedback-returns-clause-value t c = grind (arith, common_steps, fed_alike)
