@@ -78,7 +78,8 @@ fn next_item(
     } = so_far;
     let before = kept_part(Some(kept), number);
     let done = eval(alloc, at, LEVELS, &mut env, expr_of(item), before)?;
-    item_behind(Progress { env, shown, around }, number, item, done)
+    let next = item_behind(Progress { env, shown, around }, number, item, done)?;
+    Ok(next)
 }
 
 /// Evaluates all items, over what they kept. It fails only where there is no memory.
