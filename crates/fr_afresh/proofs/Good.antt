@@ -9,10 +9,10 @@ use Rattle.fr_core.specs.declared.kept.Kept.{Kept}
 use Rattle.fr_core.specs.declared.kept.Kept.TheVariants as kept
 use Rattle.fr_core.specs.declared.program.Item.{Item}
 use Rattle.fr_core.specs.declared.program.Item.TheVariants as item
-use Rattle.fr_meaning.specs.Words.{Seen, Env, First, Done, under, own, plain, test_of}
-use Rattle.fr_meaning.specs.Cells.{child, datum_cell, behind_datum, behind_payload}
-use Rattle.fr_meaning.specs.Evaluation.{World, Ev, Parts, eval_to, layer, parts, line_done, if_done, call_done, body_for, refusal_first, found, source_seen, join_part, no_parts}
-use Rattle.fr_meaning.specs.States.{Line, fed}
+use Rattle.fr_meaning.specs.Words.{Seen, Env, First, Done, under, own, plain, found}
+use Rattle.fr_meaning.specs.Cells.{child}
+use Rattle.fr_meaning.specs.Evaluation.{World, Ev, Parts, Choice, eval_to, layer, parts, line_done, choose, switch_done, call_done, body_for, refusal_first, source_seen, join_part, no_parts, form_cell, behind_cell}
+use Rattle.fr_meaning.specs.States.{Line, of_operator, of_handler, of_feedback, fed}
 use Rattle.fr_meaning.specs.Afresh.{items}
 use Rattle.fr_afresh.specs.Bodies.{all_good}
 
@@ -46,10 +46,9 @@ ended_quiet v k c inner = record { good = λ h. own_good v (none_right inner (ow
 line_quiet : (ps : Parts) (l : Line) → IsQuiet (line_done ps l)
 line_quiet ps l = record { good = λ h. own_good l.value (none_left (own l.value) (refusal_first l.refusal) (none_right l.inner _ (none_right ps.first _ h))) }
 
-if_quiet : (ev : Ev) (env : Env) (k : Kept) (t : Done) (r : Result Bool Bad) (a b : Core) → IsQuiet (if_done ev env k t r a b)
-if_quiet ev env k t (Err x) a b = ended_quiet _ _ _ _
-if_quiet ev env k t (Ok true) a b = ended_quiet _ _ _ _
-if_quiet ev env k t (Ok false) a b = ended_quiet _ _ _ _
+switch_quiet : (ev : Ev) (env : Env) (k : Kept) (t : Done) (r : Result Choice Bad) → IsQuiet (switch_done ev env k t r)
+switch_quiet ev env k t (Err x) = ended_quiet _ _ _ _
+switch_quiet ev env k t (Ok c) = ended_quiet _ _ _ _
 
 call_quiet : (ev : Ev) (k : Kept) (n : ℕ) (ps : Parts) (o : Option Core) → IsQuiet (call_done ev k n ps o)
 call_quiet ev k n ps None = ended_quiet _ _ _ _
@@ -60,24 +59,15 @@ layer_quiet w ev env k (Core-F.Lit v) = ended_quiet (plain v) kept.Nothing 0 Non
 layer_quiet w ev env k (Core-F.Var x) = ended_quiet (found (slice_get env x.0)) kept.Nothing 0 None
 layer_quiet w ev env k (Core-F.Source s) = ended_quiet (source_seen (slice_get w.sources s.0)) kept.Nothing 0 None
 layer_quiet w ev env k (Core-F.Let es body) = ended_quiet _ _ _ _
-layer_quiet w ev env k (Core-F.If test chosen other) = let t = ev test env (child k 0) in if_quiet ev env k t (test_of t.value) chosen other
+layer_quiet w ev env k (Core-F.If test a b) = let t = ev test env (child k 0) in switch_quiet ev env k t (choose a b t.value)
 layer_quiet w ev env k (Core-F.Apply f es) = call_quiet ev k (length es) (parts ev env k 0 es) (body_for (slice_get w.functions f.0) (length es))
-layer_quiet w ev env k (Core-F.PrimApp p es) = ended_quiet _ _ _ _
-layer_quiet w ev env k (Core-F.Fold init list body) = ended_quiet _ _ _ _
-layer_quiet w ev env k (Core-F.Repeat init count body) = ended_quiet _ _ _ _
-layer_quiet w ev env k (Core-F.MapE e body) = line_quiet (parts ev env k 0 (e ∷ [])) _
-layer_quiet w ev env k (Core-F.FilterE e body) = line_quiet (parts ev env k 0 (e ∷ [])) _
-layer_quiet w ev env k (Core-F.MergeE es) = line_quiet (parts ev env k 0 es) _
-layer_quiet w ev env k (Core-F.Hold e init) = line_quiet (parts ev env (behind_datum k) 0 (e ∷ init ∷ [])) _
-layer_quiet w ev env k (Core-F.CollectB e init body) = line_quiet (parts ev env (behind_datum k) 0 (e ∷ init ∷ [])) _
-layer_quiet w ev env k (Core-F.CollectE e init body) = line_quiet (parts ev env (behind_datum k) 0 (e ∷ init ∷ [])) _
-layer_quiet w ev env k (Core-F.Changes b) = line_quiet (parts ev env (behind_datum k) 0 (b ∷ [])) _
-layer_quiet w ev env k (Core-F.OnceE e) = line_quiet (parts ev env (behind_datum k) 0 (e ∷ [])) _
-layer_quiet w ev env k (Core-F.Delay init b) = line_quiet (parts ev env (behind_datum k) 0 (init ∷ b ∷ [])) _
-layer_quiet w ev env k (Core-F.DelayE e) = line_quiet (parts ev env (behind_payload k) 0 (e ∷ [])) _
+layer_quiet w ev env k (Core-F.Operator o es) = line_quiet (parts ev env (behind_cell (of_operator o) k) 0 es) _
+layer_quiet w ev env k (Core-F.Handler h es body) = line_quiet (parts ev env (behind_cell (of_handler h) k) 0 es) _
+layer_quiet w ev env k (Core-F.Loop l es body) = ended_quiet _ _ _ _
 layer_quiet w ev env k (Core-F.Feedback init body) =
-    let d = ev init env (child (behind_datum k) 0) in
-    let b = ev body (env ++ fed (datum_cell k) d.value ∷ []) (child (behind_datum k) 1) in
+    let cell = form_cell of_feedback k in
+    let d = ev init env (child (behind_cell of_feedback k) 0) in
+    let b = ev body (env ++ fed cell d.value ∷ []) (child (behind_cell of_feedback k) 1) in
     line_quiet (join_part 0 d (join_part 1 b no_parts)) _
 
 eval_quiet : (n : ℕ) (w : World) (e : Core) (env : Env) (k : Kept) → IsQuiet (eval_to n w e env k)

@@ -26,8 +26,8 @@ or_none (Some f) = refl
 pub all_told : (ev : Ev) (k : Kept) (n : ℕ) (p : Progress) (is : List Item) → whole ev k n p [] ≡ whole ev k 0 unbegun is → Tells p (items ev [] k 0 is)
 all_told ev k n p is h = record {
   shown = sym (append-nil p.shown) ∙ ap (λ (e : Evaluated). e.shown) h;
-  kepts = sym (append-nil p.kepts) ∙ ap (λ (e : Evaluated). e.kepts) h;
-  first = sym (or_none p.first) ∙ ap (λ (e : Evaluated). e.first) h;
+  kepts = sym (append-nil p.around.kepts) ∙ ap (λ (e : Evaluated). e.kepts) h;
+  first = sym (or_none p.around.first) ∙ ap (λ (e : Evaluated). e.first) h;
 }
 
 pub told_clean : (n : ℕ) (w : World) (k : Kept) (is : List Item) (p : Progress) → Tells p (items (eval_to n w) [] k 0 is) → IsClean p
@@ -49,7 +49,7 @@ pub told_cleanly : (r : Result Progress AllocError) (n : ℕ) (w : World) (k : K
 told_cleanly (Ok p) n w k is t = told_clean n w k is p t
 told_cleanly (Err e) n w k is t = tt
 
-pub stands_now : (a : Afresh) (done : Progress) (n : Instant) → n.values ≡ a.values → a.kept ≡ kept.Group done.kepts → all_good done.shown ≡ Some a.shown → done.first ≡ None → Tells done n.evaluated → Leaves a a.program n
+pub stands_now : (a : Afresh) (done : Progress) (n : Instant) → n.values ≡ a.values → a.kept ≡ kept.Group done.around.kepts → all_good done.shown ≡ Some a.shown → done.around.first ≡ None → Tells done n.evaluated → Leaves a a.program n
 stands_now a done n is_values is_kept good quiet t = record {
   program = refl;
   state = rw (is_values, ← t.kepts, is_kept) refl;

@@ -1,5 +1,3 @@
-pub mod Turns
-pub mod Handled
 pub mod SourceSteps
 pub mod Good
 pub mod Instants

@@ -5,31 +5,31 @@ use Rattle.fr_value.specs.declared.now.Now.{Now}
 use Rattle.fr_core.specs.declared.core_form.Core.{Core}
 use Rattle.fr_core.specs.declared.kept.Kept.{Kept}
 use Rattle.fr_core.specs.declared.program.Item.{Item}
-use Rattle.fr_meaning.specs.Words.{Seen, under}
-use Rattle.fr_meaning.specs.Cells.{child}
+use Rattle.fr_core.specs.declared.program.Item.TheVariants as item
+use Rattle.fr_meaning.specs.Words.{Seen}
 use Rattle.fr_meaning.specs.Evaluation.{Ev}
 use Rattle.fr_meaning.specs.Afresh.{Evaluated, items}
 use Rattle.fr_afresh.specs.declared.bodies.Progress.{Progress}
+use Rattle.fr_afresh.specs.declared.joining.Done.{Done}
+use Rattle.fr_afresh.specs.Told.{unbegun_around, joined}
 
--- a value was bound for the items behind
-abbrev pub behind_define : Ev → Kept → ℕ → Progress → Core → Progress
-behind_define ev k i p e = let d = ev e p.env (child k i) in record { env = p.env ++ d.value ∷ []; shown = p.shown; kepts = p.kepts ++ d.kept ∷ []; first = option_or p.first (under i d.first) }
+-- the expression of an item
+abbrev pub item_expr : Item → Core
+item_expr (item.Define e) = e
+item_expr (item.Show name e) = e
 
--- a value was shown
-abbrev pub behind_show : Ev → Kept → ℕ → Progress → Core → Progress
-behind_show ev k i p e = let d = ev e p.env (child k i) in record { env = p.env; shown = p.shown ++ d.value ∷ []; kepts = p.kepts ++ d.kept ∷ []; first = option_or p.first (under i d.first) }
+-- the items so far, and behind them item number n: its value is bound for the items behind it, or shown
+abbrev pub behind_item : Progress → ℕ → Item → Done → Progress
+behind_item p n (item.Define e) d = record { env = p.env ++ d.value ∷ []; shown = p.shown; around = joined p.around n d.kept d.first }
+behind_item p n (item.Show name e) d = record { env = p.env; shown = p.shown ++ d.value ∷ []; around = joined p.around n d.kept d.first }
 
 -- what all items give, at no cost, where these are left from number i on
 abbrev pub whole : Ev → Kept → ℕ → Progress → List Item → Evaluated
-whole ev k i p is = let rest = items ev p.env k i is in record { shown = p.shown ++ rest.shown; kepts = p.kepts ++ rest.kepts; cost = 0; first = option_or p.first rest.first }
-
--- what is told of items, at no cost
-abbrev pub costless_items : Evaluated → Evaluated
-costless_items n = record { shown = n.shown; kepts = n.kepts; cost = 0; first = n.first }
+whole ev k i p is = let rest = items ev p.env k i is in record { shown = p.shown ++ rest.shown; kepts = p.around.kepts ++ rest.kepts; cost = 0; first = option_or p.around.first rest.first }
 
 -- before the first item
 abbrev pub unbegun : Progress
-unbegun = record { env = []; shown = []; kepts = []; first = None }
+unbegun = record { env = []; shown = []; around = unbegun_around }
 
 -- the values, where none of them is Bad
 abbrev pub all_good : List Seen → Option (List Now)

@@ -1,9 +1,8 @@
 -- The evaluation of expressions at an instant, by what code has of the instant.
-use Rattle.std.specs.Prelude.{ℕ, [], ◌∷◌}
-use Rattle.fr_core.specs.declared.core_form.Core.{Core}
-use Rattle.fr_meaning.specs.Words.{Seen, Env, Done as Evaluated}
-use Rattle.fr_meaning.specs.Evaluation.{World, Ev, eval_to, body_with}
+use Rattle.std.specs.Prelude.{ℕ}
+use Rattle.fr_meaning.specs.Evaluation.{World, Ev, Choice as PartChoice, eval_to}
 use Rattle.fr_afresh.specs.declared.evaluation.At.{At}
+use Rattle.fr_afresh.specs.declared.places.Choice.{Choice}
 
 -- the functions and sources that the code has
 abbrev pub world : At → World
@@ -13,10 +12,6 @@ world at = record { functions = at.functions.now; sources = at.sources.now }
 abbrev pub here : At → ℕ → Ev
 here at n = eval_to n (world at)
 
--- a turn of a loop over a list: the body with the accumulator and the item
-abbrev pub fold_turn : Ev → Env → Core → Seen → Seen → Evaluated
-fold_turn ev env body acc x = body_with ev env body (acc ∷ x ∷ [])
-
--- a turn of a counted loop: the body with the accumulator
-abbrev pub repeat_turn : Ev → Env → Core → Seen → Evaluated
-repeat_turn ev env body acc = body_with ev env body (acc ∷ [])
+-- what a switch goes on with, as the code has it
+abbrev pub choice_of : Choice → PartChoice
+choice_of c = record { key = c.key; number = c.number; expr = c.expr.now }

@@ -7,9 +7,9 @@ use Rattle.fr_afresh.specs.Bodies.{all_good}
 -- what was done tells of items that were evaluated
 pub record Tells (p : Progress) (n : Evaluated) : Type 0 where
   pub shown : p.shown ≡ n.shown
-  pub kepts : p.kepts ≡ n.kepts
-  pub first : p.first ≡ n.first
+  pub kepts : p.around.kepts ≡ n.kepts
+  pub first : p.around.first ≡ n.first
 
 -- where nothing errs, no shown value is Bad
 abbrev pub IsClean : Progress → Type 0
-IsClean p = p.first ≡ None → all_good p.shown ≡ None → ⊥
+IsClean p = p.around.first ≡ None → all_good p.shown ≡ None → ⊥

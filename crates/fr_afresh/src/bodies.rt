@@ -4,106 +4,60 @@ ghost use Rattle.fr_core.specs.declared.program.Item.{Item as BodyItem};
 ghost use Rattle.fr_core.specs.WellFormed.{AreNumbered};
 ghost use Rattle.fr_meaning.specs.Afresh.{items as all_items, sources_at, body};
 ghost use Rattle.fr_afresh.specs.Here.{here};
-ghost use Rattle.fr_afresh.specs.Bodies.{behind_define, behind_show, whole, unbegun, all_good};
+ghost use Rattle.fr_afresh.specs.Bodies.{item_expr, behind_item, whole, all_good};
 ghost use Rattle.fr_afresh.specs.Tells.{Tells, IsClean};
 
 use crate::evaluation::{At, eval};
+use crate::joining::{Around, Done, nothing_around, with_kept};
 use crate::sources::source_values;
+use crate::trees::kept_part;
 use fr_core::{Core, Inputs, Item, Kept, Program};
-use fr_lines::{Done, First, Seen, either, kept_part, under_part};
+use fr_lines::Seen;
 use fr_value::{Now, Value};
 use sqlite_items::Items;
 use std::alloc::{AllocError, Global};
 
-/// The items that were evaluated so far: the values that they bound, the values of shows, what the items keep, and their
-/// first error.
+/// The items that were evaluated so far: the values that they bound, the values of shows, and what they leave beside.
 #[derive(Drop)]
 pub struct Progress {
     pub env: Items<Seen>,
     pub shown: Items<Seen>,
-    pub kepts: Items<Kept>,
-    pub first: First,
+    pub around: Around,
 }
 
 /// The levels that an item's expression may nest.
 const LEVELS: u32 = 2000;
 
-fn define_item(
-    alloc: Global,
-    at: &At<'_>,
-    number: usize,
-    so_far: Progress,
-    expr: &Core,
-    kept: &Kept,
-) -> Result<Progress, AllocError>
-    ensures { IfOk result (λ p. p ≡ behind_define (here at.now 2000) kept.now number so_far expr.now) }
+fn expr_of(item: &Item) -> &Core
+    ensures { result.now ≡ item_expr item.now }
 {
-    let Progress {
-        mut env,
-        shown,
-        mut kepts,
-        first,
-    } = so_far;
-    let Done {
-        value,
-        kept: tree,
-        first: inner,
-    } = eval(
-        alloc,
-        at,
-        LEVELS,
-        &mut env,
-        expr,
-        kept_part(Some(kept), number),
-    )?;
-    env.push(value)?;
-    kepts.push(tree)?;
-    let first = either(first, under_part(number, inner)?);
-    Ok(Progress {
-        env,
-        shown,
-        kepts,
-        first,
-    })
+    match item {
+        Item::Define(expr) => expr,
+        Item::Show(_, expr) => expr,
+    }
 }
 
-fn show_item(
-    alloc: Global,
-    at: &At<'_>,
-    number: usize,
+/// The items so far, and behind them the one of this number. It fails only where there is no memory.
+fn item_behind(
     so_far: Progress,
-    expr: &Core,
-    kept: &Kept,
+    number: usize,
+    item: &Item,
+    done: Done,
 ) -> Result<Progress, AllocError>
-    ensures { IfOk result (λ p. p ≡ behind_show (here at.now 2000) kept.now number so_far expr.now) }
+    ensures { IfOk result (λ p. p ≡ behind_item so_far number item.now done) }
 {
     let Progress {
         mut env,
         mut shown,
-        mut kepts,
-        first,
+        around,
     } = so_far;
-    let Done {
-        value,
-        kept: tree,
-        first: inner,
-    } = eval(
-        alloc,
-        at,
-        LEVELS,
-        &mut env,
-        expr,
-        kept_part(Some(kept), number),
-    )?;
-    shown.push(value)?;
-    kepts.push(tree)?;
-    let first = either(first, under_part(number, inner)?);
-    Ok(Progress {
-        env,
-        shown,
-        kepts,
-        first,
-    })
+    let Done { value, kept, first } = done;
+    let around = with_kept(around, number, kept, first)?;
+    match item {
+        Item::Define(_) => env.push(value)?,
+        Item::Show(_, _) => shown.push(value)?,
+    }
+    Ok(Progress { env, shown, around })
 }
 
 /// Evaluates one item more.
@@ -117,10 +71,15 @@ fn next_item(
 ) -> Result<Progress, AllocError>
     ensures { IfOk result (λ p. (is : List BodyItem) → whole (here at.now 2000) kept.now (number + 1) p is ≡ whole (here at.now 2000) kept.now number so_far (item.now ∷ is)) }
 {
-    match item {
-        Item::Define(expr) => define_item(alloc, at, number, so_far, expr, kept),
-        Item::Show(_, expr) => show_item(alloc, at, number, so_far, expr, kept),
-    }
+    let Progress {
+        mut env,
+        shown,
+        around,
+    } = so_far;
+    let before = kept_part(Some(kept), number);
+    let done = eval(alloc, at, LEVELS, &mut env, expr_of(item), before)?;
+    let next = item_behind(Progress { env, shown, around }, number, item, done)?;
+    Ok(next)
 }
 
 /// Evaluates all items, over what they kept. It fails only where there is no memory.
@@ -135,8 +94,7 @@ pub fn eval_items(
     let mut so_far = Progress {
         env: Items::new(alloc),
         shown: Items::new(alloc),
-        kepts: Items::new(alloc),
-        first: None,
+        around: nothing_around(alloc),
     };
     for i in 0..items.len() {
         so_far = next_item(alloc, at, i, so_far, &items[i], kept)?;

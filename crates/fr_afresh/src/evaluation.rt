@@ -1,30 +1,27 @@
 //! The evaluation of expressions: one function for each shape of form, and no more than the forms' own order.
-ghost use Rattle.std.specs.Prelude.{◌≡◌, ◌++◌, ◌∷◌, [], Err, IfOk, OnOk, length, slice_get};
-ghost use Rattle.fr_value.specs.declared.now.Bad.TheVariants.{Arity as arity};
-ghost use Rattle.fr_meaning.specs.Words.{test_of};
-ghost use Rattle.fr_meaning.specs.Primitives.{applied};
-ghost use Rattle.fr_meaning.specs.Cells.{child, datum_cell, payload_cell, behind_datum, behind_payload};
-ghost use Rattle.fr_meaning.specs.States.{map_e, filter_e, merge_e, hold, collect_b, collect_e, changes, once_e, delay, delay_e};
-ghost use Rattle.fr_meaning.specs.Evaluation.{parts, part, parts_only, let_done, if_done, call_done, body_for, body_with, fold_done, fold_turns, repeat_done, repeat_turns, handler, line_done, feedback_done};
-ghost use Rattle.fr_lines.specs.Told.{told, told_parts, told_one, told_two, told_turns, parts_of};
-ghost use Rattle.fr_lines.specs.Trees.{tree};
-ghost use Rattle.fr_lines.specs.Begins.{begun_line};
-ghost use Rattle.fr_afresh.specs.Here.{here, fold_turn, repeat_turn};
+ghost use Rattle.std.specs.Prelude.{◌≡◌, ◌++◌, ◌∷◌, ◌+◌, List, None, IfOk, OnOk, length, slice_get};
+ghost use Rattle.fr_meaning.specs.Words.{Env};
+ghost use Rattle.fr_meaning.specs.Cells.{child};
+ghost use Rattle.fr_meaning.specs.States.{no_call, of_operator, of_handler, of_feedback, handler_end};
+ghost use Rattle.fr_meaning.specs.Evaluation.{parts, let_done, choose, switch_done, call_done, body_for, body_with, handler as called, turns, loop_done, state_done, behind_cell, feedback_done as fed_done};
+ghost use Rattle.fr_lines.specs.Rounds.{bound, number_of, rounds_left};
+ghost use Rattle.fr_afresh.specs.Told.{told, told_parts, lined, turns_on};
+ghost use Rattle.fr_afresh.specs.Trees.{tree};
+ghost use Rattle.fr_afresh.specs.Here.{here};
 
-use crate::places::{
-    cut, fed_values, forget, function_body, one_value, release, release_list, release_value,
-    source_at, two_values, variable_at,
+use crate::joining::{
+    Around, Done, Parts, Turns, choice_done, ended, feedback_done, handled, last_done, leaf_of,
+    line_done, no_parts, operator_done, part_behind, test_behind, too_deep, turned, turns_done,
+    untested,
 };
-use fr_core::{Core, Function, Kept};
+use crate::places::{behind, bind_turn, choice_by, cut, function_body, source_at};
+use crate::trees::{kept_behind, kept_cell, kept_part, kept_under};
+use fr_core::{Core, Function, Handler, Kept, Loop, Operator};
 use fr_lines::{
-    Around, Begun, Done, First, One, Parts, Seen, Turns, Two, apply_primitive, begin_collect_b,
-    begin_collect_e, begin_filter, begin_map, behind_parts, branch_kept, branched, changes_done,
-    count_of, delay_done, delay_e_done, either, end_handled, feedback_behind, hold_done, item_at,
-    kept_behind_datum, kept_behind_payload, kept_datum, kept_part, leaf_of, line_behind, list_of,
-    merge_done, once_done, one_of, parts_alone, refused_turns, test_in, too_deep, turns_behind,
-    two_of, under_part, untested,
+    Begun, CellKind, Round, Rounds, Seen, begin_handler, fed_value, handler_cell, operator_cell,
+    rounds_of, share_part,
 };
-use fr_value::{Bad, List, Now, Primitive};
+use fr_value::{Bad, Now, Value};
 use sqlite_items::Items;
 use std::alloc::{AllocError, Global};
 
@@ -33,24 +30,6 @@ use std::alloc::{AllocError, Global};
 pub struct At<'a> {
     pub functions: &'a [Function],
     pub sources: &'a [Now],
-}
-
-/// A primitive over its arguments. It fails only where there is no memory.
-fn primitive_done(alloc: Global, prim: Primitive, args: Parts) -> Result<Done, AllocError>
-    ensures { IfOk result (λ d. d ≡ told (parts_only (applied prim args.values) (parts_of args.around))) }
-{
-    let Parts { values, around } = args;
-    let value = apply_primitive(alloc, prim, values.as_slice())?;
-    Ok(parts_alone(alloc, value, around))
-}
-
-/// A call with a wrong number of arguments.
-fn arity_done(alloc: Global, args: Parts) -> Done
-    ensures { result ≡ told (parts_only (Err arity) (parts_of args.around)) }
-{
-    let Parts { values, around } = args;
-    release(values);
-    parts_alone(alloc, Err(Bad::Arity), around)
 }
 
 /// Evaluates an expression that nests at most `left` levels deep, over the values of the variables in scope and what was
@@ -73,7 +52,7 @@ pub fn eval(
     let below = left - 1;
     match expr {
         Core::Lit(value) => Ok(leaf_of(alloc, Ok(Now::Plain(value.share()?)))),
-        Core::Var(id) => Ok(leaf_of(alloc, variable_at(env.as_slice(), id.0)?)),
+        Core::Var(id) => Ok(leaf_of(alloc, share_part(env.as_slice(), id.0 as usize)?)),
         Core::Source(id) => Ok(leaf_of(alloc, source_at(at.sources, id.0)?)),
         Core::Let(exprs, body) => eval_let(
             alloc,
@@ -84,90 +63,46 @@ pub fn eval(
             body.get(),
             kept,
         ),
-        Core::If(test, chosen, other) => eval_if(
+        Core::If(test, a, b) => eval_if(
             alloc,
             at,
             below,
             env,
             test.get(),
-            chosen.get(),
-            other.get(),
+            a.get(),
+            b.get(),
             kept,
         ),
         Core::Apply(id, args) => eval_call(alloc, at, below, env, id.0, args.as_slice(), kept),
-        Core::PrimApp(prim, args) => eval_primitive(
+        Core::Operator(operator, exprs) => eval_operator(
             alloc,
             at,
             below,
             env,
-            *prim,
-            args.as_slice(),
+            *operator,
+            exprs.as_slice(),
             kept,
         ),
-        Core::Fold(init, list, body) => eval_fold(
+        Core::Handler(handler, exprs, body) => eval_handler(
             alloc,
             at,
             below,
             env,
-            init.get(),
-            list.get(),
+            *handler,
+            exprs.as_slice(),
             body.get(),
             kept,
         ),
-        Core::Repeat(init, count, body) => eval_repeat(
+        Core::Loop(looped, exprs, body) => eval_loop(
             alloc,
             at,
             below,
             env,
-            init.get(),
-            count.get(),
+            *looped,
+            exprs.as_slice(),
             body.get(),
             kept,
         ),
-        Core::MapE(event, body) => eval_map(alloc, at, below, env, event.get(), body.get(), kept),
-        Core::FilterE(event, body) => eval_filter(
-            alloc,
-            at,
-            below,
-            env,
-            event.get(),
-            body.get(),
-            kept,
-        ),
-        Core::MergeE(events) => eval_merge(alloc, at, below, env, events.as_slice(), kept),
-        Core::Hold(event, init) => eval_hold(alloc, at, below, env, event.get(), init.get(), kept),
-        Core::CollectB(event, init, body) => eval_collect_b(
-            alloc,
-            at,
-            below,
-            env,
-            event.get(),
-            init.get(),
-            body.get(),
-            kept,
-        ),
-        Core::CollectE(event, init, body) => eval_collect_e(
-            alloc,
-            at,
-            below,
-            env,
-            event.get(),
-            init.get(),
-            body.get(),
-            kept,
-        ),
-        Core::Changes(value) => eval_changes(alloc, at, below, env, value.get(), kept),
-        Core::OnceE(event) => eval_once(alloc, at, below, env, event.get(), kept),
-        Core::Delay(init, value) => eval_delay(
-            alloc,
-            at,
-            below,
-            env,
-            init.get(),
-            value.get(),
-            kept,
-        ),
-        Core::DelayE(event) => eval_delay_e(alloc, at, below, env, event.get(), kept),
         Core::Feedback(init, body) => eval_feedback(
             alloc,
             at,
@@ -193,159 +128,12 @@ fn eval_parts(
     ensures value { IfOk result (λ p. p ≡ told_parts (parts (here at.now left) env.old (tree kept.entry) 0 exprs.now)) }
     ensures env { OnOk result (env.new ≡ env.old) }
 {
-    let mut values = Items::new(alloc);
-    let mut kepts = Items::new(alloc);
-    let mut first: First = None;
+    let mut so_far = no_parts(alloc);
     for i in 0..exprs.len() {
-        let Done {
-            value,
-            kept: tree,
-            first: inner,
-        } = eval(alloc, at, left, env, &exprs[i], kept_part(kept, i))?;
-        values.push(value)?;
-        kepts.push(tree)?;
-        first = either(first, under_part(i, inner)?);
+        let part = eval(alloc, at, left, env, &exprs[i], kept_part(kept, i))?;
+        so_far = part_behind(so_far, i, part)?;
     }
-    Ok(Parts {
-        values,
-        around: Around { kepts, first },
-    })
-}
-
-#[cycle(eval)]
-fn eval_let(
-    alloc: Global,
-    at: &At<'_>,
-    left: u32,
-    env: &mut Items<Seen>,
-    exprs: &[Core],
-    body: &Core,
-    kept: Option<&Kept>,
-) -> Result<Done, AllocError>
-    ensures value { IfOk result (λ d. d ≡ told (let_done (here at.now left) env.old (tree kept.entry) (length exprs.now) (parts (here at.now left) env.old (tree kept.entry) 0 exprs.now) body.now)) }
-    ensures env { OnOk result (env.new ≡ env.old) }
-{
-    let Parts { values, around } = eval_parts(alloc, at, left, env, exprs, kept)?;
-    let last = eval_with(
-        alloc,
-        at,
-        left,
-        env,
-        body,
-        values,
-        kept_part(kept, exprs.len()),
-    )?;
-    behind_parts(alloc, exprs.len(), around, last)
-}
-
-#[cycle(eval)]
-fn eval_if(
-    alloc: Global,
-    at: &At<'_>,
-    left: u32,
-    env: &mut Items<Seen>,
-    test: &Core,
-    chosen: &Core,
-    other: &Core,
-    kept: Option<&Kept>,
-) -> Result<Done, AllocError>
-    ensures value { IfOk result (λ d. d ≡ told (let t = here at.now left test.now env.old (child (tree kept.entry) 0) in if_done (here at.now left) env.old (tree kept.entry) t (test_of t.value) chosen.now other.now)) }
-    ensures env { OnOk result (env.new ≡ env.old) }
-{
-    let tested = eval(alloc, at, left, env, test, kept_part(kept, 0))?;
-    match test_in(&tested.value) {
-        Err(bad) => untested(alloc, tested, bad),
-        Ok(true) => {
-            let branch = eval(
-                alloc,
-                at,
-                left,
-                env,
-                chosen,
-                branch_kept(kept_part(kept, 1), true),
-            )?;
-            branched(alloc, tested, true, 1, branch)
-        }
-        Ok(false) => {
-            let branch = eval(
-                alloc,
-                at,
-                left,
-                env,
-                other,
-                branch_kept(kept_part(kept, 1), false),
-            )?;
-            branched(alloc, tested, false, 2, branch)
-        }
-    }
-}
-
-#[cycle(eval)]
-fn eval_call(
-    alloc: Global,
-    at: &At<'_>,
-    left: u32,
-    env: &mut Items<Seen>,
-    function: u32,
-    args: &[Core],
-    kept: Option<&Kept>,
-) -> Result<Done, AllocError>
-    ensures value { IfOk result (λ d. d ≡ told (call_done (here at.now left) (tree kept.entry) (length args.now) (parts (here at.now left) env.old (tree kept.entry) 0 args.now) (body_for (slice_get at.now.functions.now function) (length args.now)))) }
-    ensures env { OnOk result (env.new ≡ env.old) }
-{
-    let parts = eval_parts(alloc, at, left, env, args, kept)?;
-    match function_body(at.functions, function, args.len()) {
-        None => Ok(arity_done(alloc, parts)),
-        Some(body) => {
-            let Parts { mut values, around } = parts;
-            let last = eval(
-                alloc,
-                at,
-                left,
-                &mut values,
-                body,
-                kept_part(kept, args.len()),
-            )?;
-            release(values);
-            behind_parts(alloc, args.len(), around, last)
-        }
-    }
-}
-
-/// Evaluates the one part of a form.
-#[cycle(eval)]
-fn eval_one(
-    alloc: Global,
-    at: &At<'_>,
-    left: u32,
-    env: &mut Items<Seen>,
-    a: &Core,
-    kept: Option<&Kept>,
-) -> Result<One, AllocError>
-    ensures value { IfOk result (λ p. p ≡ told_one (parts (here at.now left) env.old (tree kept.entry) 0 (a.now ∷ []))) }
-    ensures env { OnOk result (env.new ≡ env.old) }
-{
-    let x = eval(alloc, at, left, env, a, kept_part(kept, 0))?;
-    one_of(alloc, x)
-}
-
-/// Evaluates the two parts of a form.
-#[cycle(eval)]
-fn eval_two(
-    alloc: Global,
-    at: &At<'_>,
-    left: u32,
-    env: &mut Items<Seen>,
-    a: &Core,
-    b: &Core,
-    kept: Option<&Kept>,
-) -> Result<Two, AllocError>
-    ensures value { IfOk result (λ p. p ≡ told_two (parts (here at.now left) env.old (tree kept.entry) 0 (a.now ∷ b.now ∷ []))) }
-    ensures env { OnOk result (env.new ≡ env.old) }
-{
-    let x = eval(alloc, at, left, env, a, kept_part(kept, 0))?;
-    let y = eval(alloc, at, left, env, b, kept_part(kept, 1))?;
-    two_of(alloc, x, y)
+    Ok(so_far)
 }
 
 /// Evaluates a body with further values.
@@ -370,350 +158,218 @@ fn eval_with(
 }
 
 #[cycle(eval)]
-fn eval_primitive(
+fn eval_let(
     alloc: Global,
     at: &At<'_>,
     left: u32,
     env: &mut Items<Seen>,
-    prim: Primitive,
+    exprs: &[Core],
+    body: &Core,
+    kept: Option<&Kept>,
+) -> Result<Done, AllocError>
+    ensures value { IfOk result (λ d. d ≡ told (let_done (here at.now left) env.old (tree kept.entry) (length exprs.now) (parts (here at.now left) env.old (tree kept.entry) 0 exprs.now) body.now)) }
+    ensures env { OnOk result (env.new ≡ env.old) }
+{
+    let Parts { values, around } = eval_parts(alloc, at, left, env, exprs, kept)?;
+    let number = exprs.len();
+    let last = eval_with(alloc, at, left, env, body, values, kept_part(kept, number))?;
+    last_done(alloc, around, number, last)
+}
+
+#[cycle(eval)]
+fn eval_if(
+    alloc: Global,
+    at: &At<'_>,
+    left: u32,
+    env: &mut Items<Seen>,
+    test: &Core,
+    a: &Core,
+    b: &Core,
+    kept: Option<&Kept>,
+) -> Result<Done, AllocError>
+    ensures value { IfOk result (λ d. d ≡ told (let t = here at.now left test.now env.old (child (tree kept.entry) 0) in switch_done (here at.now left) env.old (tree kept.entry) t (choose a.now b.now t.value))) }
+    ensures env { OnOk result (env.new ≡ env.old) }
+{
+    let tested = eval(alloc, at, left, env, test, kept_part(kept, 0))?;
+    let choice = choice_by(a, b, &tested.value);
+    let around = test_behind(alloc, tested)?;
+    match choice {
+        Err(bad) => untested(alloc, around, bad),
+        Ok(choice) => {
+            let before = kept_under(kept_part(kept, 1), choice.key);
+            let done = eval(alloc, at, left, env, choice.expr, before)?;
+            choice_done(alloc, around, choice.key, choice.number, done)
+        }
+    }
+}
+
+#[cycle(eval)]
+fn eval_call(
+    alloc: Global,
+    at: &At<'_>,
+    left: u32,
+    env: &mut Items<Seen>,
+    function: u32,
     args: &[Core],
     kept: Option<&Kept>,
 ) -> Result<Done, AllocError>
-    ensures value { IfOk result (λ d. d ≡ told (let ps = parts (here at.now left) env.old (tree kept.entry) 0 args.now in parts_only (applied prim ps.values) ps)) }
+    ensures value { IfOk result (λ d. d ≡ told (call_done (here at.now left) (tree kept.entry) (length args.now) (parts (here at.now left) env.old (tree kept.entry) 0 args.now) (body_for (slice_get at.now.functions.now function) (length args.now)))) }
     ensures env { OnOk result (env.new ≡ env.old) }
 {
-    let parts = eval_parts(alloc, at, left, env, args, kept)?;
-    primitive_done(alloc, prim, parts)
+    let Parts { mut values, around } = eval_parts(alloc, at, left, env, args, kept)?;
+    let number = args.len();
+    match function_body(at.functions, function, number) {
+        None => Ok(ended(alloc, Err(Bad::Arity), around)),
+        Some(body) => {
+            let last = eval(alloc, at, left, &mut values, body, kept_part(kept, number))?;
+            last_done(alloc, around, number, last)
+        }
+    }
 }
 
 #[cycle(eval)]
-fn eval_fold(
+fn eval_operator(
     alloc: Global,
     at: &At<'_>,
     left: u32,
     env: &mut Items<Seen>,
-    init: &Core,
-    list: &Core,
+    operator: Operator,
+    exprs: &[Core],
+    kept: Option<&Kept>,
+) -> Result<Done, AllocError>
+    ensures value { IfOk result (λ d. d ≡ told (state_done (here at.now left) env.old (tree kept.entry) (of_operator operator) exprs.now no_call)) }
+    ensures env { OnOk result (env.new ≡ env.old) }
+{
+    let kind = operator_cell(operator);
+    let before = kept_behind(kind, kept);
+    let parts = eval_parts(alloc, at, left, env, exprs, before)?;
+    operator_done(alloc, operator, kept_cell(kind, kept), parts)
+}
+
+#[cycle(eval)]
+fn eval_handler(
+    alloc: Global,
+    at: &At<'_>,
+    left: u32,
+    env: &mut Items<Seen>,
+    handler: Handler,
+    exprs: &[Core],
     body: &Core,
     kept: Option<&Kept>,
 ) -> Result<Done, AllocError>
-    ensures value { IfOk result (λ d. d ≡ told (fold_done (here at.now left) env.old body.now (parts (here at.now left) env.old (tree kept.entry) 0 (init.now ∷ list.now ∷ [])))) }
+    ensures value { IfOk result (λ d. d ≡ told (state_done (here at.now left) env.old (tree kept.entry) (of_handler handler) exprs.now (called (here at.now left) env.old (length exprs.now) body.now))) }
     ensures env { OnOk result (env.new ≡ env.old) }
 {
-    let Two { a, b, around } = eval_two(alloc, at, left, env, init, list, kept)?;
-    match list_of(b) {
-        Err(bad) => {
-            release_value(a);
-            turns_behind(alloc, around, refused_turns(bad))
-        }
-        Ok(items) => {
-            let turns = fold_list(alloc, at, left, env, body, a, &items)?;
-            release_list(items);
-            turns_behind(alloc, around, turns)
-        }
+    let kind = handler_cell(handler);
+    let before = kept_behind(kind, kept);
+    let Parts { values, around } = eval_parts(alloc, at, left, env, exprs, before)?;
+    match begin_handler(alloc, handler, kept_cell(kind, kept), values.as_slice())? {
+        Begun::Gives(line) => line_done(alloc, around, line),
+        Begun::Asks(args) => eval_asked(alloc, at, left, env, handler, exprs.len(), body, around, args),
     }
 }
 
-/// A turn for each item of a list.
+/// A form whose handler's call is asked for with these arguments. The handler's body is the part of this number.
 #[cycle(eval)]
-fn fold_list(
+fn eval_asked(
     alloc: Global,
     at: &At<'_>,
     left: u32,
     env: &mut Items<Seen>,
-    body: &Core,
-    init: Seen,
-    list: &List,
-) -> Result<Turns, AllocError>
-    ensures value { IfOk result (λ t. t ≡ told_turns (fold_turns (fold_turn (here at.now left) env.old body.now) 0 init list.now)) }
-    ensures env { OnOk result (env.new ≡ env.old) }
-{
-    let mut acc = init;
-    let mut first: First = None;
-    for i in 0..list.len() {
-        let item = item_at(list, i)?;
-        let args = two_values(alloc, acc, item)?;
-        let Done {
-            value,
-            kept,
-            first: inner,
-        } = eval_with(alloc, at, left, env, body, args, None)?;
-        forget(kept);
-        acc = value;
-        first = either(first, under_part(i, inner)?);
-    }
-    Ok(Turns { value: acc, first })
-}
-
-#[cycle(eval)]
-fn eval_repeat(
-    alloc: Global,
-    at: &At<'_>,
-    left: u32,
-    env: &mut Items<Seen>,
-    init: &Core,
-    count: &Core,
-    body: &Core,
-    kept: Option<&Kept>,
-) -> Result<Done, AllocError>
-    ensures value { IfOk result (λ d. d ≡ told (repeat_done (here at.now left) env.old body.now (parts (here at.now left) env.old (tree kept.entry) 0 (init.now ∷ count.now ∷ [])))) }
-    ensures env { OnOk result (env.new ≡ env.old) }
-{
-    let Two { a, b, around } = eval_two(alloc, at, left, env, init, count, kept)?;
-    let count = count_of(&b);
-    release_value(b);
-    match count {
-        Err(bad) => {
-            release_value(a);
-            turns_behind(alloc, around, refused_turns(bad))
-        }
-        Ok(count) => {
-            let turns = repeat_times(alloc, at, left, env, body, a, count)?;
-            turns_behind(alloc, around, turns)
-        }
-    }
-}
-
-/// So many turns.
-#[cycle(eval)]
-fn repeat_times(
-    alloc: Global,
-    at: &At<'_>,
-    left: u32,
-    env: &mut Items<Seen>,
-    body: &Core,
-    init: Seen,
-    count: usize,
-) -> Result<Turns, AllocError>
-    ensures value { IfOk result (λ t. t ≡ told_turns (repeat_turns (repeat_turn (here at.now left) env.old body.now) 0 init count)) }
-    ensures env { OnOk result (env.new ≡ env.old) }
-{
-    let mut acc = init;
-    let mut first: First = None;
-    for i in 0..count {
-        let args = one_value(alloc, acc)?;
-        let Done {
-            value,
-            kept,
-            first: inner,
-        } = eval_with(alloc, at, left, env, body, args, None)?;
-        forget(kept);
-        acc = value;
-        first = either(first, under_part(i, inner)?);
-    }
-    Ok(Turns { value: acc, first })
-}
-
-/// A form with a handler, whose body is the part of this number, once it has begun.
-#[cycle(eval)]
-fn eval_begun(
-    alloc: Global,
-    at: &At<'_>,
-    left: u32,
-    env: &mut Items<Seen>,
+    handler: Handler,
     number: usize,
     body: &Core,
     around: Around,
-    begun: Begun,
+    args: Items<Seen>,
 ) -> Result<Done, AllocError>
-    ensures value { IfOk result (λ d. d ≡ told (line_done (parts_of around) (begun_line (handler (here at.now left) env.old number body.now) begun))) }
+    ensures value { IfOk result (λ d. d ≡ lined around (handler_end handler args (called (here at.now left) env.old number body.now args))) }
     ensures env { OnOk result (env.new ≡ env.old) }
 {
-    match begun {
-        Begun::Gives(line) => line_behind(alloc, around, line),
-        Begun::Asks(args, ending) => {
-            let done = eval_with(alloc, at, left, env, body, args, None)?;
-            end_handled(alloc, around, ending, number, done)
+    let outer = env.len();
+    env.append(args)?;
+    let done = eval(alloc, at, left, env, body, None)?;
+    let ended = handled(alloc, handler, around, number, behind(env.as_slice(), outer), done)?;
+    cut(env, outer);
+    Ok(ended)
+}
+
+#[cycle(eval)]
+fn eval_loop(
+    alloc: Global,
+    at: &At<'_>,
+    left: u32,
+    env: &mut Items<Seen>,
+    looped: Loop,
+    exprs: &[Core],
+    body: &Core,
+    kept: Option<&Kept>,
+) -> Result<Done, AllocError>
+    ensures value { IfOk result (λ d. d ≡ told (loop_done (here at.now left) env.old looped (length exprs.now) (parts (here at.now left) env.old (tree kept.entry) 0 exprs.now) body.now)) }
+    ensures env { OnOk result (env.new ≡ env.old) }
+{
+    let Parts { values, around } = eval_parts(alloc, at, left, env, exprs, kept)?;
+    match rounds_of(looped, values.as_slice()) {
+        Err(bad) => Ok(ended(alloc, Err(bad), around)),
+        Ok(rounds) => {
+            let init = share_part(values.as_slice(), 0)?;
+            let turns = eval_turns(alloc, at, left, env, body, init, rounds)?;
+            turns_done(alloc, around, exprs.len(), turns)
         }
     }
 }
 
+/// A turn for each round that is left.
 #[cycle(eval)]
-fn eval_map(
+fn eval_turns(
     alloc: Global,
     at: &At<'_>,
     left: u32,
     env: &mut Items<Seen>,
-    event: &Core,
     body: &Core,
-    kept: Option<&Kept>,
-) -> Result<Done, AllocError>
-    ensures value { IfOk result (λ d. d ≡ told (let ps = parts (here at.now left) env.old (tree kept.entry) 0 (event.now ∷ []) in line_done ps (map_e (handler (here at.now left) env.old 1 body.now) (part ps 0)))) }
+    init: Seen,
+    rounds: Rounds<'_>,
+) -> Result<Turns, AllocError>
+    ensures value { IfOk result (λ t. t ≡ turns_on (record { value = init; first = None }) (turns (body_with (here at.now left) env.old body.now) (number_of rounds.entry) init (rounds_left rounds.entry))) }
     ensures env { OnOk result (env.new ≡ env.old) }
 {
-    let One { value, around } = eval_one(alloc, at, left, env, event, kept)?;
-    let begun = begin_map(alloc, value)?;
-    eval_begun(alloc, at, left, env, 1, body, around, begun)
+    let mut so_far = Turns {
+        value: init,
+        first: None,
+    };
+    let mut rest = rounds;
+    while let Some(Round {
+        number,
+        item,
+        behind,
+    }) = rest.next()
+    {
+        so_far = eval_turn(alloc, at, left, env, body, number, so_far, item)?;
+        rest = behind;
+    }
+    Ok(so_far)
 }
 
+/// One turn more, which has this number.
 #[cycle(eval)]
-fn eval_filter(
+fn eval_turn(
     alloc: Global,
     at: &At<'_>,
     left: u32,
     env: &mut Items<Seen>,
-    event: &Core,
     body: &Core,
-    kept: Option<&Kept>,
-) -> Result<Done, AllocError>
-    ensures value { IfOk result (λ d. d ≡ told (let ps = parts (here at.now left) env.old (tree kept.entry) 0 (event.now ∷ []) in line_done ps (filter_e (handler (here at.now left) env.old 1 body.now) (part ps 0)))) }
+    number: usize,
+    so_far: Turns,
+    item: Option<&Value>,
+) -> Result<Turns, AllocError>
+    ensures value { IfOk result (λ t. (rest : List Env) → turns_on t (turns (body_with (here at.now left) env.old body.now) (number + 1) t.value rest) ≡ turns_on so_far (turns (body_with (here at.now left) env.old body.now) number so_far.value (bound item.entry ∷ rest))) }
     ensures env { OnOk result (env.new ≡ env.old) }
 {
-    let One { value, around } = eval_one(alloc, at, left, env, event, kept)?;
-    let begun = begin_filter(alloc, value)?;
-    eval_begun(alloc, at, left, env, 1, body, around, begun)
-}
-
-#[cycle(eval)]
-fn eval_merge(
-    alloc: Global,
-    at: &At<'_>,
-    left: u32,
-    env: &mut Items<Seen>,
-    events: &[Core],
-    kept: Option<&Kept>,
-) -> Result<Done, AllocError>
-    ensures value { IfOk result (λ d. d ≡ told (let ps = parts (here at.now left) env.old (tree kept.entry) 0 events.now in line_done ps (merge_e ps.values))) }
-    ensures env { OnOk result (env.new ≡ env.old) }
-{
-    let parts = eval_parts(alloc, at, left, env, events, kept)?;
-    merge_done(alloc, parts)
-}
-
-#[cycle(eval)]
-fn eval_hold(
-    alloc: Global,
-    at: &At<'_>,
-    left: u32,
-    env: &mut Items<Seen>,
-    event: &Core,
-    init: &Core,
-    kept: Option<&Kept>,
-) -> Result<Done, AllocError>
-    ensures value { IfOk result (λ d. d ≡ told (let ps = parts (here at.now left) env.old (behind_datum (tree kept.entry)) 0 (event.now ∷ init.now ∷ []) in line_done ps (hold (datum_cell (tree kept.entry)) (part ps 0) (part ps 1)))) }
-    ensures env { OnOk result (env.new ≡ env.old) }
-{
-    let two = eval_two(alloc, at, left, env, event, init, kept_behind_datum(kept))?;
-    hold_done(alloc, kept, two)
-}
-
-#[cycle(eval)]
-fn eval_collect_b(
-    alloc: Global,
-    at: &At<'_>,
-    left: u32,
-    env: &mut Items<Seen>,
-    event: &Core,
-    init: &Core,
-    body: &Core,
-    kept: Option<&Kept>,
-) -> Result<Done, AllocError>
-    ensures value { IfOk result (λ d. d ≡ told (let ps = parts (here at.now left) env.old (behind_datum (tree kept.entry)) 0 (event.now ∷ init.now ∷ []) in line_done ps (collect_b (datum_cell (tree kept.entry)) (handler (here at.now left) env.old 2 body.now) (part ps 0) (part ps 1)))) }
-    ensures env { OnOk result (env.new ≡ env.old) }
-{
-    let Two { a, b, around } = eval_two(
-        alloc,
-        at,
-        left,
-        env,
-        event,
-        init,
-        kept_behind_datum(kept),
-    )?;
-    let begun = begin_collect_b(alloc, kept_datum(kept), a, b)?;
-    eval_begun(alloc, at, left, env, 2, body, around, begun)
-}
-
-#[cycle(eval)]
-fn eval_collect_e(
-    alloc: Global,
-    at: &At<'_>,
-    left: u32,
-    env: &mut Items<Seen>,
-    event: &Core,
-    init: &Core,
-    body: &Core,
-    kept: Option<&Kept>,
-) -> Result<Done, AllocError>
-    ensures value { IfOk result (λ d. d ≡ told (let ps = parts (here at.now left) env.old (behind_datum (tree kept.entry)) 0 (event.now ∷ init.now ∷ []) in line_done ps (collect_e (datum_cell (tree kept.entry)) (handler (here at.now left) env.old 2 body.now) (part ps 0) (part ps 1)))) }
-    ensures env { OnOk result (env.new ≡ env.old) }
-{
-    let Two { a, b, around } = eval_two(
-        alloc,
-        at,
-        left,
-        env,
-        event,
-        init,
-        kept_behind_datum(kept),
-    )?;
-    let begun = begin_collect_e(alloc, kept_datum(kept), a, b)?;
-    eval_begun(alloc, at, left, env, 2, body, around, begun)
-}
-
-#[cycle(eval)]
-fn eval_changes(
-    alloc: Global,
-    at: &At<'_>,
-    left: u32,
-    env: &mut Items<Seen>,
-    value: &Core,
-    kept: Option<&Kept>,
-) -> Result<Done, AllocError>
-    ensures value { IfOk result (λ d. d ≡ told (let ps = parts (here at.now left) env.old (behind_datum (tree kept.entry)) 0 (value.now ∷ []) in line_done ps (changes (datum_cell (tree kept.entry)) (part ps 0)))) }
-    ensures env { OnOk result (env.new ≡ env.old) }
-{
-    let one = eval_one(alloc, at, left, env, value, kept_behind_datum(kept))?;
-    changes_done(alloc, kept, one)
-}
-
-#[cycle(eval)]
-fn eval_once(
-    alloc: Global,
-    at: &At<'_>,
-    left: u32,
-    env: &mut Items<Seen>,
-    event: &Core,
-    kept: Option<&Kept>,
-) -> Result<Done, AllocError>
-    ensures value { IfOk result (λ d. d ≡ told (let ps = parts (here at.now left) env.old (behind_datum (tree kept.entry)) 0 (event.now ∷ []) in line_done ps (once_e (datum_cell (tree kept.entry)) (part ps 0)))) }
-    ensures env { OnOk result (env.new ≡ env.old) }
-{
-    let one = eval_one(alloc, at, left, env, event, kept_behind_datum(kept))?;
-    once_done(alloc, kept, one)
-}
-
-#[cycle(eval)]
-fn eval_delay(
-    alloc: Global,
-    at: &At<'_>,
-    left: u32,
-    env: &mut Items<Seen>,
-    init: &Core,
-    value: &Core,
-    kept: Option<&Kept>,
-) -> Result<Done, AllocError>
-    ensures value { IfOk result (λ d. d ≡ told (let ps = parts (here at.now left) env.old (behind_datum (tree kept.entry)) 0 (init.now ∷ value.now ∷ []) in line_done ps (delay (datum_cell (tree kept.entry)) (part ps 0) (part ps 1)))) }
-    ensures env { OnOk result (env.new ≡ env.old) }
-{
-    let two = eval_two(alloc, at, left, env, init, value, kept_behind_datum(kept))?;
-    delay_done(alloc, kept, two)
-}
-
-#[cycle(eval)]
-fn eval_delay_e(
-    alloc: Global,
-    at: &At<'_>,
-    left: u32,
-    env: &mut Items<Seen>,
-    event: &Core,
-    kept: Option<&Kept>,
-) -> Result<Done, AllocError>
-    ensures value { IfOk result (λ d. d ≡ told (let ps = parts (here at.now left) env.old (behind_payload (tree kept.entry)) 0 (event.now ∷ []) in line_done ps (delay_e (payload_cell (tree kept.entry)) (part ps 0)))) }
-    ensures env { OnOk result (env.new ≡ env.old) }
-{
-    let one = eval_one(alloc, at, left, env, event, kept_behind_payload(kept))?;
-    delay_e_done(alloc, kept, one)
+    let Turns { value, first } = so_far;
+    let outer = env.len();
+    bind_turn(env, value, item)?;
+    let turn = eval(alloc, at, left, env, body, None)?;
+    cut(env, outer);
+    turned(number, first, turn)
 }
 
 #[cycle(eval)]
@@ -726,13 +382,16 @@ fn eval_feedback(
     body: &Core,
     kept: Option<&Kept>,
 ) -> Result<Done, AllocError>
-    ensures value { IfOk result (λ d. d ≡ told (feedback_done (here at.now left) env.old (tree kept.entry) (here at.now left init.now env.old (child (behind_datum (tree kept.entry)) 0)) body.now)) }
+    ensures value { IfOk result (λ d. d ≡ told (fed_done (here at.now left) env.old (tree kept.entry) (here at.now left init.now env.old (child (behind_cell of_feedback (tree kept.entry)) 0)) body.now)) }
     ensures env { OnOk result (env.new ≡ env.old) }
 {
-    let before = kept_behind_datum(kept);
+    let before = kept_behind(CellKind::KeepsDatum, kept);
+    let cell = kept_cell(CellKind::KeepsDatum, kept);
     let started = eval(alloc, at, left, env, init, kept_part(before, 0))?;
-    let args = fed_values(alloc, kept_datum(kept), &started.value)?;
-    let done = eval_with(alloc, at, left, env, body, args, kept_part(before, 1))?;
-    let two = two_of(alloc, started, done)?;
-    feedback_behind(alloc, kept, two)
+    let parts = part_behind(no_parts(alloc), 0, started)?;
+    let outer = env.len();
+    env.push(fed_value(cell, parts.values.as_slice())?)?;
+    let done = eval(alloc, at, left, env, body, kept_part(before, 1))?;
+    cut(env, outer);
+    feedback_done(alloc, cell, parts, done)
 }

@@ -3,8 +3,10 @@
 
 mod bodies;
 mod evaluation;
+mod joining;
 mod places;
 mod running;
 mod sources;
+mod trees;
 
 pub use running::{Afresh, AfreshStop, FirstBad};

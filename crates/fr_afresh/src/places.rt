@@ -1,33 +1,42 @@
-//! Variables, sources, functions and environments.
-ghost use Rattle.std.specs.Prelude.{◌≡◌, ◌≤◌, ◌∷◌, [], IfOk, length, slice_get, take};
+//! Sources, functions, choices and environments.
+ghost use Rattle.std.specs.Prelude.{◌≡◌, ◌≤◌, ◌∷◌, [], ◌++◌, IfOk, OnOk, length, slice_get, take, drop};
 ghost use Rattle.std.specs.Option.{option_copied};
-ghost use Rattle.fr_meaning.specs.Evaluation.{found, source_seen, body_for};
-ghost use Rattle.fr_meaning.specs.States.{fed};
+ghost use Rattle.fr_meaning.specs.Words.{on_ok};
+ghost use Rattle.fr_meaning.specs.Evaluation.{choose, source_seen, body_for};
+ghost use Rattle.fr_lines.specs.Rounds.{bound};
+ghost use Rattle.fr_afresh.specs.Here.{choice_of};
 
-use fr_core::{Core, Function, Kept};
-use fr_lines::{Seen, fed_value, share_seen};
-use fr_value::{Bad, List, Now, Value};
+use fr_core::{Core, Function, Key};
+use fr_lines::{Seen, test_in};
+use fr_value::{Bad, Now, Value};
 use sqlite_items::Items;
-use std::alloc::{AllocError, Global};
+use std::alloc::AllocError;
 
-/// Lets values go.
-pub fn release(values: Items<Seen>) {
-    let _gone = values;
+/// What a switch goes on with: the key that it chose by, and the number and the expression of the part that it chose.
+#[derive(Clone, Copy)]
+pub struct Choice<'a> {
+    pub key: Key,
+    pub number: usize,
+    pub expr: &'a Core,
 }
 
-/// Lets a value go.
-pub fn release_value(value: Seen) {
-    let _gone = value;
-}
-
-/// Lets a list go.
-pub fn release_list(list: List) {
-    let _gone = list;
-}
-
-/// Lets a tree go that nothing reads.
-pub fn forget(kept: Kept) {
-    let _gone = kept;
+/// What the value of a test chooses, or why that can't be told.
+pub fn choice_by<'a>(a: &'a Core, b: &'a Core, test: &Seen) -> Result<Choice<'a>, Bad>
+    ensures { on_ok choice_of result ≡ choose a.now b.now test.now }
+{
+    if test_in(test)? {
+        Ok(Choice {
+            key: Key::Test(true),
+            number: 1,
+            expr: a,
+        })
+    } else {
+        Ok(Choice {
+            key: Key::Test(false),
+            number: 2,
+            expr: b,
+        })
+    }
 }
 
 /// Cuts an environment to its first `len` values.
@@ -40,13 +49,27 @@ pub fn cut(env: &mut Items<Seen>, len: usize)
     }
 }
 
-/// The value of a variable. It fails only where there is no memory.
-pub fn variable_at(env: &[Seen], at: u32) -> Result<Seen, AllocError>
-    ensures { IfOk result (λ v. v ≡ found (slice_get env.now at)) }
+/// The values behind the first `outer` ones.
+pub fn behind(env: &[Seen], outer: usize) -> &[Seen]
+    requires { outer ≤ length env.now }
+    ensures { result.now ≡ drop outer env.now }
 {
-    match env.get(at as usize) {
-        Some(value) => share_seen(value),
-        None => Ok(Err(Bad::Deep)),
+    &env[outer..]
+}
+
+/// Puts the accumulator of a loop behind the variables in scope, and the item, where the turn goes over one. It fails
+/// only where there is no memory.
+pub fn bind_turn(
+    env: &mut Items<Seen>,
+    acc: Seen,
+    item: Option<&Value>,
+) -> Result<(), AllocError>
+    ensures { OnOk result (env.new ≡ env.old ++ acc ∷ bound item.entry) }
+{
+    env.push(acc)?;
+    match item {
+        None => Ok(()),
+        Some(item) => env.push(Ok(Now::Plain(item.share()?))),
     }
 }
 
@@ -74,35 +97,4 @@ pub fn function_body(functions: &[Function], at: u32, args: usize) -> Option<&Co
             }
         }
     }
-}
-
-/// The values of one variable. It fails only where there is no memory.
-pub fn one_value(alloc: Global, a: Seen) -> Result<Items<Seen>, AllocError>
-    ensures { IfOk result (λ xs. xs ≡ a ∷ []) }
-{
-    let mut values = Items::new(alloc);
-    values.push(a)?;
-    Ok(values)
-}
-
-/// The value of the variable of a `feedback`: the kept datum, else that of its first part. It fails only where there is no
-/// memory.
-pub fn fed_values(
-    alloc: Global,
-    cell: Option<&Value>,
-    first: &Seen,
-) -> Result<Items<Seen>, AllocError>
-    ensures { IfOk result (λ xs. xs ≡ fed (option_copied cell.entry) first.now ∷ []) }
-{
-    one_value(alloc, fed_value(cell, first)?)
-}
-
-/// The values of two variables. It fails only where there is no memory.
-pub fn two_values(alloc: Global, a: Seen, b: Seen) -> Result<Items<Seen>, AllocError>
-    ensures { IfOk result (λ xs. xs ≡ a ∷ b ∷ []) }
-{
-    let mut values = Items::new(alloc);
-    values.push(a)?;
-    values.push(b)?;
-    Ok(values)
 }

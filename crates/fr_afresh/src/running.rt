@@ -5,9 +5,10 @@ ghost use Rattle.fr_afresh.specs.Stands.{program_of, state_of, shown_of, Leaves,
 ghost use Rattle.fr_afresh.specs.Tells.{Tells, IsClean};
 
 use crate::bodies::{Progress, eval_body, good_values};
-use crate::places::release as forget_values;
+use crate::joining::Around;
 use crate::sources::{first_values, latest_values};
 use fr_core::{Inputs, Kept, Path, Program};
+use fr_lines::Seen;
 use fr_value::{Bad, Now, Value};
 use sqlite_items::Items;
 use std::alloc::{AllocError, Global};
@@ -58,6 +59,10 @@ fn release(shown: Items<Now>) {
     let _gone = shown;
 }
 
+fn release_values(values: Items<Seen>) {
+    let _gone = values;
+}
+
 /// What stands behind an instant, over the values of the inputs at it.
 fn stand_behind(
     alloc: Global,
@@ -70,13 +75,9 @@ fn stand_behind(
     ensures ok { IfOk result (λ a. (n : Instant) → n.values ≡ values → Tells done n.evaluated → Leaves a program n) }
     ensures err { IfErr result (λ stop. (n : Instant) → Tells done n.evaluated → ErrsBy stop time n) }
 {
-    let Progress {
-        env,
-        shown,
-        kepts,
-        first,
-    } = done;
-    forget_values(env);
+    let Progress { env, shown, around } = done;
+    release_values(env);
+    let Around { kepts, first } = around;
     match first {
         Some((path, bad)) => Err(AfreshStop::First(FirstBad { time, path, bad })),
         None => match good_values(alloc, shown.as_slice())? {

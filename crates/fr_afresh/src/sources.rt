@@ -8,6 +8,7 @@ ghost use Rattle.fr_afresh.specs.Walks.{AreBehind, begins_with, left_from};
 ghost use Rattle.fr_value.specs.declared.value.Value.TheVariants as value;
 
 use fr_core::{Input, Inputs, Program, Sets};
+use fr_lines::share_option;
 use fr_value::{Now, SrcId, Value};
 use sqlite_items::Items;
 use std::alloc::{AllocError, Global};
@@ -49,15 +50,6 @@ pub fn latest_values(
         }
     }
     Ok(new)
-}
-
-fn share_option(value: Option<&Value>) -> Result<Option<Value>, AllocError>
-    ensures { IfOk result (λ v. v ≡ option_copied value.entry) }
-{
-    match value {
-        None => Ok(None),
-        Some(value) => Ok(Some(value.share()?)),
-    }
 }
 
 /// What an event source has: an occurrence where it is set.

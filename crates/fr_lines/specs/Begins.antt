@@ -1,30 +1,18 @@
 -- The forms with a handler, begun: they give their line, or ask for the handler's call.
-use Rattle.std.specs.Prelude.{ℕ, ◌+◌, [], ◌∷◌}
-use Rattle.fr_meaning.specs.Words.{Done as Evaluated, under, plain}
-use Rattle.fr_meaning.specs.States.{Line as FormLine, Called as HandlerCalled, Call, map_end, filter_end, collect_b_end, collect_e_end}
-use Rattle.fr_lines.specs.declared.line_parts.Begun.{Begun}
-use Rattle.fr_lines.specs.declared.line_parts.Begun.TheVariants as begun
-use Rattle.fr_lines.specs.declared.line_parts.Ending.{Ending}
-use Rattle.fr_lines.specs.declared.line_parts.Ending.TheVariants as ending
-use Rattle.fr_lines.specs.declared.endings.Called.{Called}
-use Rattle.fr_lines.specs.Told.{line_of}
+use Rattle.fr_value.specs.declared.value.Value.{Value}
+use Rattle.fr_core.specs.declared.core_form.Handler.{Handler}
+use Rattle.fr_core.specs.declared.core_form.Handler.TheVariants as handler
+use Rattle.fr_meaning.specs.States.{Line as FormLine, Begun as FormBegun, known, asks, keeps, stays}
+use Rattle.fr_lines.specs.declared.handlers.Begun.{Begun}
+use Rattle.fr_lines.specs.declared.handlers.Begun.TheVariants as begun
+use Rattle.fr_lines.specs.Lent.{line_of}
 
--- the line behind a handler's call
-abbrev pub end_with : Ending → HandlerCalled → FormLine
-end_with ending.Map c = map_end [] c
-end_with (ending.Filter v) c = filter_end (plain v ∷ []) c
-end_with ending.CollectB c = collect_b_end [] c
-end_with ending.CollectE c = collect_e_end [] c
+-- a form with a handler that the code has begun
+abbrev pub begun_of : Begun → FormBegun
+begun_of (begun.Gives l) = known (line_of l)
+begun_of (begun.Asks args) = asks args
 
--- the line of a form that has begun, where the handler's call is made if it is asked for
-abbrev pub begun_line : Call → Begun → FormLine
-begun_line call (begun.Gives l) = line_of l
-begun_line call (begun.Asks args end) = end_with end (call args)
-
--- a handler's call, whose body is part number n and was evaluated so
-abbrev pub handled : ℕ → Evaluated → HandlerCalled
-handled n d = record { value = d.value; cost = d.cost + 1; first = under n d.first }
-
--- a call that is told of so, at no cost
-abbrev pub called_of : Called → HandlerCalled
-called_of c = record { value = c.value; cost = 0; first = c.first }
+-- the line of a form with a state where its event doesn't occur
+abbrev pub quiet : Handler → Value → FormLine
+quiet handler.CollectE = stays
+quiet h = keeps

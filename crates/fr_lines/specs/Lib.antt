@@ -1,3 +1,3 @@
-pub mod Told
-pub mod Trees
+pub mod Lent
 pub mod Begins
+pub mod Rounds

@@ -1,7 +1,7 @@
 ghost use Rattle.std.specs.Prelude.{◌≡◌, IfOk};
 ghost use Rattle.fr_meaning.specs.Primitives.{first_bad, plain_values, on_values, applied};
 
-use crate::answers::Seen;
+use crate::seen::Seen;
 use fr_prims::{PrimStop, apply};
 use fr_value::{Bad, Now, Primitive, Value};
 use sqlite_items::Items;

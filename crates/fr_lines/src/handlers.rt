@@ -1,123 +1,165 @@
 ghost use Rattle.std.specs.Prelude.{◌≡◌, ◌∷◌, [], IfOk};
-ghost use Rattle.std.specs.Option.{option_copied};
+ghost use Rattle.fr_core.specs.declared.core_form.Handler.TheVariants as handler;
 ghost use Rattle.fr_meaning.specs.Words.{plain};
-ghost use Rattle.fr_meaning.specs.States.{Call, map_e, filter_e, collect_b, collect_e, base_of, stays};
-ghost use Rattle.fr_lines.specs.Told.{line_of};
-ghost use Rattle.fr_lines.specs.Begins.{begun_line};
+ghost use Rattle.fr_meaning.specs.States.{event_begin, collect_begin, handler_begin, handler_line, passed};
+ghost use Rattle.fr_lines.specs.Lent.{earlier, line_of};
+ghost use Rattle.fr_lines.specs.Begins.{begun_of, quiet};
 
-use crate::answers::Seen;
-use crate::line_parts::{
-    Begun, Cell, Ending, Line, bad_line, event_in, keeping_line, plain_in, plain_line,
-};
-use fr_value::{Bad, Now, Value};
+use crate::lines::{Cell, LentCell, Line, bad_line, keeping_line, plain_line, staying_line};
+use crate::operators::base_at;
+use crate::seen::{Seen, event_at, plain_in, test_in};
+use fr_core::Handler;
+use fr_value::{Now, Value};
 use sqlite_items::Items;
 use std::alloc::{AllocError, Global};
 
-fn one_value(alloc: Global, value: Value) -> Result<Items<Seen>, AllocError>
-    ensures { IfOk result (λ args. args ≡ plain value ∷ []) }
+/// A form with a handler, begun.
+#[derive(Drop)]
+pub enum Begun {
+    /// Its line, without a call.
+    Gives(Line),
+    /// The arguments of the handler's call.
+    Asks(Items<Seen>),
+}
+
+fn one_value(alloc: Global, a: &Value) -> Result<Items<Seen>, AllocError>
+    ensures { IfOk result (λ args. args ≡ plain a.now ∷ []) }
 {
     let mut args = Items::new(alloc);
-    args.push(Ok(Now::Plain(value)))?;
+    args.push(Ok(Now::Plain(a.share()?)))?;
     Ok(args)
 }
 
-fn two_values(alloc: Global, a: Value, b: Value) -> Result<Items<Seen>, AllocError>
-    ensures { IfOk result (λ args. args ≡ plain a ∷ plain b ∷ []) }
+fn two_values(alloc: Global, a: &Value, b: &Value) -> Result<Items<Seen>, AllocError>
+    ensures { IfOk result (λ args. args ≡ plain a.now ∷ plain b.now ∷ []) }
 {
-    let mut args = Items::new(alloc);
-    args.push(Ok(Now::Plain(a)))?;
-    args.push(Ok(Now::Plain(b)))?;
+    let mut args = one_value(alloc, a)?;
+    args.push(Ok(Now::Plain(b.share()?)))?;
     Ok(args)
 }
 
-/// The kept datum, else INIT, or why there is none. It fails only where there is no memory.
-pub fn base_in(cell: Option<&Value>, init: Seen) -> Result<Result<Value, Bad>, AllocError>
-    ensures { IfOk result (λ v. v ≡ base_of (option_copied cell.entry) init) }
+fn begin_event(alloc: Global, parts: &[Seen]) -> Result<Begun, AllocError>
+    ensures { IfOk result (λ b. begun_of b ≡ event_begin parts.now) }
 {
-    match init {
-        Err(bad) => Ok(Err(bad)),
-        Ok(now) => match cell {
-            Some(value) => Ok(Ok(value.share()?)),
-            None => Ok(plain_in(Ok(now))),
+    match event_at(parts, 0) {
+        Err(bad) => Ok(Begun::Gives(bad_line(bad))),
+        Ok(None) => Ok(Begun::Gives(plain_line(Ok(Now::Occ(None)), None))),
+        Ok(Some(payload)) => Ok(Begun::Asks(one_value(alloc, payload)?)),
+    }
+}
+
+/// The line of a form with a state where its event doesn't occur.
+fn quiet_line(handler: Handler, base: &Value) -> Result<Line, AllocError>
+    ensures { IfOk result (λ l. line_of l ≡ quiet handler base.now) }
+{
+    match handler {
+        Handler::CollectE => staying_line(base),
+        _ => keeping_line(base),
+    }
+}
+
+fn begin_collect(
+    alloc: Global,
+    handler: Handler,
+    cell: Option<LentCell<'_>>,
+    parts: &[Seen],
+) -> Result<Begun, AllocError>
+    ensures { IfOk result (λ b. begun_of b ≡ collect_begin (quiet handler) (earlier cell.entry) parts.now) }
+{
+    match event_at(parts, 0) {
+        Err(bad) => Ok(Begun::Gives(bad_line(bad))),
+        Ok(payload) => match base_at(cell, parts, 1) {
+            Err(bad) => Ok(Begun::Gives(bad_line(bad))),
+            Ok(base) => match payload {
+                None => Ok(Begun::Gives(quiet_line(handler, base)?)),
+                Some(payload) => Ok(Begun::Asks(two_values(alloc, payload, base)?)),
+            },
         },
     }
 }
 
-/// Begins a `map-e` over an event. It fails only where there is no memory.
-pub fn begin_map(alloc: Global, event: Seen) -> Result<Begun, AllocError>
-    ensures { IfOk result (λ b. (call : Call) → begun_line call b ≡ map_e call event) }
+/// Begins a form with a handler, over what its cell holds and the values of its parts: it gives its line, or asks for
+/// the handler's call. It fails only where there is no memory.
+pub fn begin_handler(
+    alloc: Global,
+    handler: Handler,
+    cell: Option<LentCell<'_>>,
+    parts: &[Seen],
+) -> Result<Begun, AllocError>
+    ensures { IfOk result (λ b. begun_of b ≡ handler_begin handler (earlier cell.entry) parts.now) }
 {
-    match event_in(event) {
-        Err(bad) => Ok(Begun::Gives(bad_line(bad))),
-        Ok(None) => Ok(Begun::Gives(plain_line(Ok(Now::Occ(None)), None))),
-        Ok(Some(payload)) => Ok(Begun::Asks(one_value(alloc, payload)?, Ending::Map)),
+    match handler {
+        Handler::MapE => begin_event(alloc, parts),
+        Handler::FilterE => begin_event(alloc, parts),
+        Handler::CollectB => begin_collect(alloc, Handler::CollectB, cell, parts),
+        Handler::CollectE => begin_collect(alloc, Handler::CollectE, cell, parts),
     }
 }
 
-/// Begins a `filter-e` over an event. It fails only where there is no memory.
-pub fn begin_filter(alloc: Global, event: Seen) -> Result<Begun, AllocError>
-    ensures { IfOk result (λ b. (call : Call) → begun_line call b ≡ filter_e call event) }
+/// The first argument, where the test holds. It fails only where there is no memory.
+fn passed_payload(args: &[Seen], holds: bool) -> Result<Option<Value>, AllocError>
+    ensures { IfOk result (λ o. o ≡ passed args.now holds) }
 {
-    match event_in(event) {
-        Err(bad) => Ok(Begun::Gives(bad_line(bad))),
-        Ok(None) => Ok(Begun::Gives(plain_line(Ok(Now::Occ(None)), None))),
-        Ok(Some(payload)) => {
-            let kept = payload.share()?;
-            Ok(Begun::Asks(one_value(alloc, payload)?, Ending::Filter(kept)))
+    match args.get(0) {
+        Some(Ok(Now::Plain(payload))) => {
+            if holds {
+                Ok(Some(payload.share()?))
+            } else {
+                Ok(None)
+            }
+        }
+        _ => Ok(None),
+    }
+}
+
+fn end_filter(args: &[Seen], given: &Seen) -> Result<Line, AllocError>
+    ensures { IfOk result (λ l. line_of l ≡ handler_line handler.FilterE args.now given.now) }
+{
+    match test_in(given) {
+        Err(bad) => Ok(bad_line(bad)),
+        Ok(holds) => Ok(plain_line(Ok(Now::Occ(passed_payload(args, holds)?)), None)),
+    }
+}
+
+fn end_map(given: &Seen) -> Result<Line, AllocError>
+    ensures { IfOk result (λ l. line_of l ≡ handler_line handler.MapE [] given.now) }
+{
+    match plain_in(given) {
+        Err(bad) => Ok(bad_line(bad)),
+        Ok(value) => Ok(plain_line(Ok(Now::Occ(Some(value.share()?))), None)),
+    }
+}
+
+fn end_collect_b(given: &Seen) -> Result<Line, AllocError>
+    ensures { IfOk result (λ l. line_of l ≡ handler_line handler.CollectB [] given.now) }
+{
+    match plain_in(given) {
+        Err(bad) => Ok(bad_line(bad)),
+        Ok(value) => keeping_line(value),
+    }
+}
+
+fn end_collect_e(given: &Seen) -> Result<Line, AllocError>
+    ensures { IfOk result (λ l. line_of l ≡ handler_line handler.CollectE [] given.now) }
+{
+    match plain_in(given) {
+        Err(bad) => Ok(bad_line(bad)),
+        Ok(value) => {
+            let next = Some(Cell::Datum(value.share()?));
+            Ok(plain_line(Ok(Now::Occ(Some(value.share()?))), next))
         }
     }
 }
 
-fn staying_line(base: Value) -> Line
-    ensures { line_of result ≡ stays base }
+/// The line of a form with a handler, over the arguments of the handler's call and the value that it gave. It fails only
+/// where there is no memory.
+pub fn end_handler(handler: Handler, args: &[Seen], given: &Seen) -> Result<Line, AllocError>
+    ensures { IfOk result (λ l. line_of l ≡ handler_line handler args.now given.now) }
 {
-    plain_line(Ok(Now::Occ(None)), Some(Cell::Datum(base)))
-}
-
-/// Begins a `collect-b` over an event and INIT. It fails only where there is no memory.
-pub fn begin_collect_b(
-    alloc: Global,
-    cell: Option<&Value>,
-    event: Seen,
-    init: Seen,
-) -> Result<Begun, AllocError>
-    ensures { IfOk result (λ b. (call : Call) → begun_line call b ≡ collect_b (option_copied cell.entry) call event init) }
-{
-    match event_in(event) {
-        Err(bad) => Ok(Begun::Gives(bad_line(bad))),
-        Ok(payload) => match base_in(cell, init)? {
-            Err(bad) => Ok(Begun::Gives(bad_line(bad))),
-            Ok(base) => match payload {
-                None => Ok(Begun::Gives(keeping_line(base)?)),
-                Some(payload) => Ok(Begun::Asks(
-                    two_values(alloc, payload, base)?,
-                    Ending::CollectB,
-                )),
-            },
-        },
-    }
-}
-
-/// Begins a `collect-e` over an event and INIT. It fails only where there is no memory.
-pub fn begin_collect_e(
-    alloc: Global,
-    cell: Option<&Value>,
-    event: Seen,
-    init: Seen,
-) -> Result<Begun, AllocError>
-    ensures { IfOk result (λ b. (call : Call) → begun_line call b ≡ collect_e (option_copied cell.entry) call event init) }
-{
-    match event_in(event) {
-        Err(bad) => Ok(Begun::Gives(bad_line(bad))),
-        Ok(payload) => match base_in(cell, init)? {
-            Err(bad) => Ok(Begun::Gives(bad_line(bad))),
-            Ok(base) => match payload {
-                None => Ok(Begun::Gives(staying_line(base))),
-                Some(payload) => Ok(Begun::Asks(
-                    two_values(alloc, payload, base)?,
-                    Ending::CollectE,
-                )),
-            },
-        },
+    match handler {
+        Handler::MapE => end_map(given),
+        Handler::FilterE => end_filter(args, given),
+        Handler::CollectB => end_collect_b(given),
+        Handler::CollectE => end_collect_e(given),
     }
 }

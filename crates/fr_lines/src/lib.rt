@@ -1,30 +1,18 @@
-//! What the evaluation of a form needs beside the evaluation of its parts: first errors, kept trees, primitives, loops
-//! and the lines of the event and state forms.
+//! The lines of the event and state forms: what a form gives over the values of its parts and what its cell holds.
+//!
+//! Values and cells are borrowed. Nothing here evaluates an expression, or knows how what is kept hangs together.
 #![tactic(auto)]
 
-mod answers;
 mod applying;
-mod endings;
 mod handlers;
-mod line_parts;
-mod looping;
-mod state_forms;
-mod trees;
+mod lines;
+mod operators;
+mod rounds;
+mod seen;
 
-pub use answers::{
-    Around, Done, First, One, Parts, Seen, Turns, Two, behind_parts, branched, either, ended_with,
-    leaf_of, one_of, parts_alone, share_seen, test_in, too_deep, turns_behind, two_of, under_part,
-    untested,
-};
 pub use applying::apply_primitive;
-pub use endings::end_handled;
-pub use handlers::{begin_collect_b, begin_collect_e, begin_filter, begin_map};
-pub use line_parts::{Begun, Cell, Ending, Line, line_behind};
-pub use looping::{count_of, item_at, list_of, refused_turns};
-pub use state_forms::{
-    changes_done, delay_done, delay_e_done, fed_value, feedback_behind, hold_done, merge_done,
-    once_done,
-};
-pub use trees::{
-    branch_kept, kept_behind_datum, kept_behind_payload, kept_datum, kept_part, kept_payload,
-};
+pub use handlers::{Begun, begin_handler, end_handler};
+pub use lines::{Cell, CellKind, LentCell, Line, handler_cell, operator_cell};
+pub use operators::{fed_value, feedback_line, operator_line};
+pub use rounds::{Round, Rounds, rounds_of};
+pub use seen::{Seen, share_option, share_part, test_in};

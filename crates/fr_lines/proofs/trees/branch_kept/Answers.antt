@@ -1,6 +1,0 @@
-use Rattle.std.proofs.Common.{sym}
-use Rattle.fr_lines.proofs.Openings.{nothing_choice}
-use Rattle.fr_lines.proofs.trees.branch_kept.Goals as goal
-
-pub returns-in-None : goal.returns-in-None
-returns-in-None c = rw c.in-None.is (sym (nothing_choice _))
