@@ -1,9 +1,7 @@
 pub mod Placed
 mod Halved
-pub mod Nestings
-pub mod Widths
-pub mod Scopes
-pub mod Judged
-pub mod LowForms
+pub mod Parts
+pub mod PartLists
+pub mod Folds
 pub mod Found
 mod Examples

@@ -69,17 +69,17 @@ pure_itself calls (Core-F.Handler h es b) = false
 pure_itself calls (Core-F.Feedback a b) = false
 pure_itself calls f = true
 
--- whether the body of an expression that is itself a handler or a loop is pure
-abbrev pub body_pure : Core-F Judged → Bool
-body_pure (Core-F.Handler h es b) = b.pure
-body_pure (Core-F.Loop l es b) = b.pure
-body_pure f = true
+-- whether the body of an expression that is itself a handler or a loop passes the test
+abbrev pub body_passes : {X : Type 0} → (X → Bool) → Core-F X → Bool
+body_passes test (Core-F.Handler h es b) = test b
+body_passes test (Core-F.Loop l es b) = test b
+body_passes test f = true
 
 -- what is pure and what is fit, from the judgements of the parts
 abbrev pub judge_step : (ℕ → ℕ → Bool) → Core-F Judged → Judged
 judge_step calls f = record {
   pure = pure_itself calls f && all_pure (parts_in f);
-  fit = body_pure f && all_fit (parts_in f);
+  fit = body_passes (λ j. j.pure) f && all_fit (parts_in f);
 }
 
 -- an expression is pure where it has no form with a state and none of an event, and each call in it is pure; it is fit where the body of each handler and loop in it is pure

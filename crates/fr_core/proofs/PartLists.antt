@@ -1,0 +1,68 @@
+-- Numbers and tests of a list of parts, with a body behind it or none.
+use Rattle.std.proofs.Common.{◌≡◌, ◌+◌, ◌&&◌, ℕ, Bool, true, false, List, [], ◌∷◌, ◌++◌, map, max, refl, ap, add-zero, ◌∙◌, arith}
+use Rattle.fr_value.specs.Data.{total, greatest}
+use Rattle.fr_core.specs.Shapes.{outer, all_true}
+use Rattle.fr_core.specs.WellFormed.{all_at}
+
+-- the parts alone
+
+pub parts-outer : {X : Type 0} (xs : List X) → map (λ (x : ℕ × X). x.1) (outer xs) ≡ xs
+parts-outer [] = refl
+parts-outer (x ∷ xs) = ap (λ l. x ∷ l) (parts-outer xs)
+
+pub parts-body : {X : Type 0} (xs : List X) (n : ℕ) (b : X) → map (λ (x : ℕ × X). x.1) (outer xs ++ (n, b) ∷ []) ≡ xs ++ b ∷ []
+parts-body [] n b = refl
+parts-body (x ∷ xs) n b = ap (λ l. x ∷ l) (parts-body xs n b)
+
+-- a number of each, or a test
+
+pub greatest-append : (ms ns : List ℕ) → greatest (ms ++ ns) ≡ max (greatest ms) (greatest ns)
+greatest-append [] ns = omega arith
+greatest-append (m ∷ ms) ns = omega (arith, greatest-append ms ns)
+
+pub total-append : (ms ns : List ℕ) → total (ms ++ ns) ≡ total ms + total ns
+total-append [] ns = omega arith
+total-append (m ∷ ms) ns = omega (arith, total-append ms ns)
+
+and_true : (a : Bool) → a && true ≡ a
+and_true true = refl
+and_true false = refl
+
+and_assoc : (a b c : Bool) → a && (b && c) ≡ (a && b) && c
+and_assoc true b c = refl
+and_assoc false b c = refl
+
+pub all_true-append : (ts us : List Bool) → all_true (ts ++ us) ≡ all_true ts && all_true us
+all_true-append [] us = refl
+all_true-append (t ∷ ts) us = ap (λ b. t && b) (all_true-append ts us) ∙ and_assoc t (all_true ts) (all_true us)
+
+pub greatest-body : {X : Type 0} (f : X → ℕ) (xs : List X) (n : ℕ) (b : X) → greatest (map f (map (λ (x : ℕ × X). x.1) (outer xs ++ (n, b) ∷ []))) ≡ max (greatest (map f xs)) (f b)
+greatest-body f [] n b = omega arith
+greatest-body f (x ∷ xs) n b = omega (arith, greatest-body f xs n b)
+
+pub total-body : {X : Type 0} (f : X → ℕ) (xs : List X) (n : ℕ) (b : X) → total (map f (map (λ (x : ℕ × X). x.1) (outer xs ++ (n, b) ∷ []))) ≡ total (map f xs) + f b
+total-body f [] n b = omega arith
+total-body f (x ∷ xs) n b = omega (arith, total-body f xs n b)
+
+pub all_true-body : {X : Type 0} (f : X → Bool) (xs : List X) (n : ℕ) (b : X) → all_true (map f (map (λ (x : ℕ × X). x.1) (outer xs ++ (n, b) ∷ []))) ≡ all_true (map f xs) && f b
+all_true-body f [] n b = and_true (f b)
+all_true-body f (x ∷ xs) n b = ap (λ t. f x && t) (all_true-body f xs n b) ∙ and_assoc (f x) (all_true (map f xs)) (f b)
+
+-- what is bound for each
+
+pub widest-outer : {X : Type 0} (f : X → ℕ) (xs : List X) → greatest (map (λ (x : ℕ × X). x.0 + f x.1) (outer xs)) ≡ greatest (map f xs)
+widest-outer f [] = refl
+widest-outer f (x ∷ xs) = omega (arith, widest-outer f xs)
+
+pub widest-body : {X : Type 0} (f : X → ℕ) (xs : List X) (n : ℕ) (b : X) → greatest (map (λ (x : ℕ × X). x.0 + f x.1) (outer xs ++ (n, b) ∷ [])) ≡ max (greatest (map f xs)) (n + f b)
+widest-body f [] n b = omega arith
+widest-body f (x ∷ xs) n b = omega (arith, widest-body f xs n b)
+
+pub all_at-outer : {X : Type 0} (f : X → ℕ → Bool) (m : ℕ) (xs : List X) → all_at m (map (λ (x : ℕ × X). (x.0, f x.1)) (outer xs)) ≡ all_true (map (λ x. f x m) xs)
+all_at-outer f m [] = refl
+all_at-outer f m (x ∷ xs) = rw (add-zero, all_at-outer f m xs)
+
+pub all_at-body : {X : Type 0} (f : X → ℕ → Bool) (m : ℕ) (xs : List X) (n : ℕ) (b : X)
+    → all_at m (map (λ (x : ℕ × X). (x.0, f x.1)) (outer xs ++ (n, b) ∷ [])) ≡ all_true (map (λ x. f x m) xs) && f b (m + n)
+all_at-body f m [] n b = and_true (f b (m + n))
+all_at-body f m (x ∷ xs) n b = rw (add-zero, all_at-body f m xs n b) (and_assoc (f x m) (all_true (map (λ x. f x m) xs)) (f b (m + n)))
