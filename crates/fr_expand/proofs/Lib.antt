@@ -1,12 +1,10 @@
-pub mod DepthForms
-pub mod CoreForms
-pub mod FaultForms
+pub mod Opened
+pub mod Views
 pub mod Nested
 mod Chains
 mod Walks
 mod FaultArms
 mod Repeats
-mod SharedArms
 pub mod Among
 pub mod Bound
 pub mod DistinctNames

@@ -3,7 +3,7 @@ use Rattle.std.specs.Prelude.{ℕ, ◌+◌, List, [], ◌∷◌, length, take, m
 use Rattle.fr_value.specs.Data.{greatest}
 use Rattle.fr_syntax.specs.declared.expr.Expr.{Expr, fold-Expr}
 use Rattle.fr_syntax.specs.declared.expr.Expr.TheOpen.{Expr-F}
-use Rattle.fr_expand.specs.Shapes.{Shape, literal, name, call, choice, chain, clauses, all_of, any_of, operation, binder, feedback, shape}
+use Rattle.fr_expand.specs.Shapes.{Shape, literal, reference, call, choice, chain, clauses, all_of, any_of, operation, binder, feedback, shape}
 
 -- each stands in an expression around what is behind it
 abbrev pub around : List ℕ → ℕ → ℕ
@@ -33,7 +33,7 @@ or_depth (d ∷ ds) = 1 + max d (1 + or_depth ds)
 -- the depth of a shape from those of its parts
 abbrev pub depth_by : Shape ℕ → ℕ
 depth_by (literal v) = 1
-depth_by (name x) = 1
+depth_by (reference x) = 1
 depth_by (call f es) = 1 + greatest es
 depth_by (choice a b c) = 1 + max a (max b c)
 depth_by (chain xs es b) = chain_depth xs es b

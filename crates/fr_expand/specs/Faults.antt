@@ -9,7 +9,7 @@ use Rattle.fr_scope.specs.declared.meaning.Meaning.{Meaning}
 use Rattle.fr_scope.specs.declared.meaning.Meaning.TheVariants as meaning
 use Rattle.fr_scope.specs.Meanings.{Binder, meaning_of}
 use Rattle.fr_expand.specs.declared.faults.Faults.{Faults}
-use Rattle.fr_expand.specs.Shapes.{Shape, literal, name, call, choice, chain, clauses, all_of, any_of, operation, binder, feedback, shape}
+use Rattle.fr_expand.specs.Shapes.{Shape, literal, reference, call, choice, chain, clauses, all_of, any_of, operation, binder, feedback, shape}
 
 -- no fault
 abbrev pub clean : Faults
@@ -94,16 +94,16 @@ chained_faults xs fs body scope = body scope
 -- the faults of a shape from those of its parts
 abbrev pub faults_by : List Global → Shape Part → Part
 faults_by globals (literal v) scope = clean
-faults_by globals (name x) scope = unless_keyword (is_keyword x) (value_fault (meaning_of globals scope x))
+faults_by globals (reference x) scope = unless_keyword (is_keyword x) (value_fault (meaning_of globals scope x))
 faults_by globals (call f es) scope = with (callee_fault (meaning_of globals scope f)) (all_faults es scope)
-faults_by globals (choice a b c) scope = with (a scope) (with (b scope) (c scope))
+faults_by globals (choice a b c) scope = with (a scope) (all_faults (b ∷ c ∷ []) scope)
 faults_by globals (chain xs es b) scope = with (chain_faults xs) (chained_faults xs es b scope)
 faults_by globals (clauses ts es e) scope = with (all_faults ts scope) (with (all_faults es scope) (e scope))
 faults_by globals (all_of es) scope = all_faults es scope
 faults_by globals (any_of es) scope = all_faults es scope
 faults_by globals (operation o es) scope = all_faults es scope
 faults_by globals (binder k es xs b) scope = with (binding_faults xs) (with (all_faults es scope) (b (scope ++ named xs)))
-faults_by globals (feedback x a b) scope = with (binding_faults (x ∷ [])) (with (a scope) (b (scope ++ named (x ∷ []))))
+faults_by globals (feedback x a b) scope = with (binding_faults (x ∷ [])) (with (all_faults (a ∷ []) scope) (b (scope ++ named (x ∷ []))))
 
 -- the faults of an expression from those of its parts
 abbrev pub faults_step : List Global → Expr-F Part → Part

@@ -19,7 +19,7 @@ use Rattle.fr_expand.specs.declared.view.View.TheVariants as view
 -- the shape of an expression with its parts, in the order in which they are evaluated
 pub data Shape (X : Type 0) : Type 0 where
   literal : Value → Shape X
-  name : List ℕ → Shape X
+  reference : List ℕ → Shape X
   call : List ℕ → List X → Shape X
   choice : X → X → X → Shape X
   chain : List (List ℕ) → List X → X → Shape X
@@ -33,7 +33,7 @@ pub data Shape (X : Type 0) : Type 0 where
 -- the shape of each form
 abbrev pub shape : {X : Type 0} → Expr-F X → Shape X
 shape (Expr-F.Literal v) = literal v
-shape (Expr-F.Name x) = name x
+shape (Expr-F.Name x) = reference x
 shape (Expr-F.If a b c) = choice a b c
 shape (Expr-F.Let xs es b) = binder binding.Let es xs b
 shape (Expr-F.LetStar xs es b) = chain xs es b
@@ -56,13 +56,13 @@ shape (Expr-F.Feedback x a b) = feedback x a b
 shape (Expr-F.Call f es) = call f es
 
 -- the shape of an expression
-unfoldable pub shape_of : Expr → Shape Expr
+abbrev pub shape_of : Expr → Shape Expr
 shape_of e = shape (out-Expr e)
 
 -- the shape with something else for each part
 abbrev pub mapped : {X Y : Type 0} → (X → Y) → Shape X → Shape Y
 mapped g (literal v) = literal v
-mapped g (name x) = name x
+mapped g (reference x) = reference x
 mapped g (call f es) = call f (map g es)
 mapped g (choice a b c) = choice (g a) (g b) (g c)
 mapped g (chain xs es b) = chain xs (map g es) (g b)
@@ -74,26 +74,26 @@ mapped g (binder k es xs b) = binder k (map g es) xs (g b)
 mapped g (feedback x a b) = feedback x (g a) (g b)
 
 -- the parts and the names that the code has
-abbrev pub exprs_in : Parts → List Expr
-exprs_in (parts.One a) = a.now ∷ []
-exprs_in (parts.Two a b) = a.now ∷ b.now ∷ []
-exprs_in (parts.Each es) = es.now
+abbrev pub exprs_of : Parts → List Expr
+exprs_of (parts.One a) = a.now ∷ []
+exprs_of (parts.Two a b) = a.now ∷ b.now ∷ []
+exprs_of (parts.Each es) = es.now
 
-abbrev pub names_in : Names → List (List ℕ)
-names_in (names.One x) = x.now ∷ []
-names_in (names.Two x y) = x.now ∷ y.now ∷ []
-names_in (names.Each xs) = xs.now
+abbrev pub names_of : Names → List (List ℕ)
+names_of (names.One x) = x.now ∷ []
+names_of (names.Two x y) = x.now ∷ y.now ∷ []
+names_of (names.Each xs) = xs.now
 
 -- the shape that the code has
 abbrev pub seen : View → Shape Expr
 seen (view.Literal v) = literal v.now
-seen (view.Name x) = name x.now
+seen (view.Name x) = reference x.now
 seen (view.Call f es) = call f.now es.now
 seen (view.If a b c) = choice a.now b.now c.now
 seen (view.Chain xs es b) = chain xs.now es.now b.now
 seen (view.Cond ts es e) = clauses ts.now es.now e.now
 seen (view.And es) = all_of es.now
 seen (view.Or es) = any_of es.now
-seen (view.Operator o es) = operation o (exprs_in es)
-seen (view.Binding k es xs b) = binder k (exprs_in es) (names_in xs) b.now
+seen (view.Operator o es) = operation o (exprs_of es)
+seen (view.Binding k es xs b) = binder k (exprs_of es) (names_of xs) b.now
 seen (view.Feedback x a b) = feedback x.now a.now b.now

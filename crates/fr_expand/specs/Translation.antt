@@ -14,7 +14,7 @@ use Rattle.fr_scope.specs.Meanings.{Binder, meaning_of}
 use Rattle.fr_expand.specs.declared.view.Binding.{Binding}
 use Rattle.fr_expand.specs.declared.view.Binding.TheVariants as binding
 use Rattle.fr_expand.specs.Faults.{named}
-use Rattle.fr_expand.specs.Shapes.{Shape, literal, name, call, choice, chain, clauses, all_of, any_of, operation, binder, feedback, shape}
+use Rattle.fr_expand.specs.Shapes.{Shape, literal, reference, call, choice, chain, clauses, all_of, any_of, operation, binder, feedback, shape}
 
 -- the literal of a truth value
 abbrev pub truth : Bool → Core
@@ -71,7 +71,7 @@ or_core (e ∷ es) scope = core.Let (e scope ∷ []) (core.If (core.Var (record 
 -- the core expression of a shape from those of its parts
 abbrev pub core_by : List Global → Shape Part → Part
 core_by globals (literal v) scope = core.Lit v
-core_by globals (name x) scope = value_core (meaning_of globals scope x)
+core_by globals (reference x) scope = value_core (meaning_of globals scope x)
 core_by globals (call f es) scope = call_core (meaning_of globals scope f) (each_core es scope)
 core_by globals (choice a b c) scope = core.If (a scope) (b scope) (c scope)
 core_by globals (chain xs es b) scope = chained_core xs es b scope

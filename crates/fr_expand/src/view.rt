@@ -74,6 +74,7 @@ impl Binding {
 }
 
 /// The shape of an expression.
+#[tactic(auto, using(crate::proofs::Opened::opened))]
 pub(crate) fn view_of(expr: &Expr) -> View<'_>
     ensures { seen result ≡ shape_of expr.now }
 {
@@ -107,8 +108,18 @@ pub(crate) fn view_of(expr: &Expr) -> View<'_>
             Names::One(x),
             body.get(),
         ),
-        Expr::MapE(x, body, a) => handler(Handler::MapE, Parts::One(a.get()), Names::One(x), body.get()),
-        Expr::FilterE(x, body, a) => handler(Handler::FilterE, Parts::One(a.get()), Names::One(x), body.get()),
+        Expr::MapE(x, body, a) => View::Binding(
+            Binding::Handler(Handler::MapE),
+            Parts::One(a.get()),
+            Names::One(x),
+            body.get(),
+        ),
+        Expr::FilterE(x, body, a) => View::Binding(
+            Binding::Handler(Handler::FilterE),
+            Parts::One(a.get()),
+            Names::One(x),
+            body.get(),
+        ),
         Expr::MergeE(parts) => View::Operator(Operator::MergeE, Parts::Each(parts.as_slice())),
         Expr::Hold(a, b) => View::Operator(Operator::Hold, Parts::Two(a.get(), b.get())),
         Expr::CollectB(a, b, x, y, body) => View::Binding(
