@@ -1,4 +1,5 @@
 pub mod Opened
+pub mod OfParts
 pub mod Views
 pub mod Nested
 mod Chains
