@@ -12,7 +12,7 @@ pub mod DistinctNames
 pub mod Expanded
 pub mod Fits
 pub mod Fresh
-pub mod Measured
+pub mod Within
 pub mod Members
 pub mod Numbered
 pub mod OneExpansion
@@ -21,7 +21,7 @@ pub mod Parsed
 pub mod Passed
 pub mod Refusals
 pub mod Roots
-pub mod ScopedCores
+pub mod Translated
 pub mod Sizes
 pub mod Sound
 pub mod Unfit
