@@ -4,7 +4,6 @@ pub mod Views
 pub mod Nested
 mod Chains
 mod Walks
-mod FaultArms
 mod Repeats
 pub mod Among
 pub mod Bound

@@ -1,5 +1,5 @@
 -- What holds of the parts of an expression, and an induction by shape.
-use Rattle.std.proofs.Common.{◌≡◌, ℕ, List, [], ◌∷◌, map, refl, sym, ap, ◌∙◌, subst}
+use Rattle.std.proofs.Common.{◌≡◌, ℕ, List, [], ◌∷◌, map, length, refl, sym, ap, ◌∙◌, subst}
 use Rattle.fr_syntax.specs.declared.expr.Expr.{Expr, map-Expr, roll-Expr, out-roll-Expr, ind-Expr}
 use Rattle.fr_syntax.specs.declared.expr.Expr.TheOpen.{Expr-F}
 use Rattle.fr_expand.specs.Shapes.{Shape, literal, reference, call, choice, chain, clauses, all_of, any_of, operation, binder, feedback, shape, shape_of, mapped}
@@ -27,6 +27,11 @@ OfParts P (any_of es) = OfEach P es
 OfParts P (operation o es) = OfEach P es
 OfParts P (binder k es xs b) = OfEach P es × P b
 OfParts P (feedback x a b) = P a × P b
+
+-- a `let` has a name for each of its parts
+abbrev pub IsPaired : {X : Type 0} → Expr-F X → Type 0
+IsPaired (Expr-F.Let xs es b) = length xs ≡ length es
+IsPaired f = Unit {0}
 
 module _ (P : Expr → Type 0) where
   abbrev With : Type 0

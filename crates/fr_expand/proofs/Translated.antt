@@ -25,7 +25,7 @@ use Rattle.fr_expand.specs.Shapes.{Shape, literal, reference, call, choice, chai
 use Rattle.fr_expand.specs.Translation.{truth, core_of, core_by, value_core, call_core, binding_core, each_core, chained_core, cond_core, and_core, or_core}
 use Rattle.fr_expand.proofs.Bound.{IsThere, value_alike}
 use Rattle.fr_expand.proofs.Fresh.{or_false}
-use Rattle.fr_expand.proofs.OfParts.{OfEach, OfParts}
+use Rattle.fr_expand.proofs.OfParts.{OfEach, OfParts, IsPaired}
 use Rattle.fr_expand.proofs.Views.{core_opens, faults_opens, weight_opens, weight_by}
 use Rattle.fr_expand.proofs.Walks.{weight_positive}
 use Rattle.fr_expand.proofs.Within.{Within, AllWithin, more, wider, none_within, one_more, parted, bodied, leaf, literal_within, tested, let_one}
@@ -61,11 +61,6 @@ longer s xs = length-append s (named xs) ∙ ap (λ n. length s + n) (length-map
 name_clear : (b : Bool) (f : Faults) → IsClear (unless_keyword b f) → IsClear f
 name_clear true f h = cc
 name_clear false f h = h
-
--- a `let` has a name for each of its parts
-abbrev pub IsPaired : {X : Type 0} → Expr-F X → Type 0
-IsPaired (Expr-F.Let xs es b) = length xs ≡ length es
-IsPaired f = Unit {0}
 
 -- whether a form with a body takes so many parts, and how many variables it binds
 abbrev takes : Binding → ℕ → Bool

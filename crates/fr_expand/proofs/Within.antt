@@ -28,7 +28,7 @@ pub record AllWithin (functions sources n m w : ℕ) (cs : List Core) : Type 0 w
   pub short : greatest (map longest cs) ≤ w
   pub narrow : greatest (map widest cs) ≤ w
 
-both_true : (a b : Bool) → a ≡ true → b ≡ true → (a && b) ≡ true
+pub both_true : (a b : Bool) → a ≡ true → b ≡ true → (a && b) ≡ true
 both_true a b h k = rw (h, k) refl
 
 module _ {functions sources n : ℕ} where
