@@ -1,12 +1,18 @@
 -- The parts of an expression, one equation a shape.
-use Rattle.std.proofs.Common.{◌≡◌, ◌+◌, ◌==◌, ◌&&◌, ℕ, Bool, true, false, List, [], ◌∷◌, ◌++◌, map, length, max, refl, sym, ap, ◌∙◌, arith}
-use Rattle.std.proofs.lemmas.List.{length-map, map-append}
-use Rattle.fr_value.specs.Data.{total, greatest}
-use Rattle.fr_core.specs.declared.core_form.Core.{map-Core}
+use Rattle.std.proofs.Common.{◌≡◌, ◌==◌, ◌⊎◌, inl, inr, ℕ, Bool, List, [], ◌∷◌, ◌++◌, map, length, refl, ap, ◌∙◌}
+use Rattle.std.proofs.lemmas.List.{length-map}
+use Rattle.fr_value.specs.declared.ids.FunId.{FunId}
+use Rattle.fr_core.specs.declared.core_form.Handler.{Handler}
+use Rattle.fr_core.specs.declared.core_form.Loop.{Loop}
+use Rattle.fr_core.specs.declared.core_form.Operator.{Operator}
+use Rattle.fr_core.specs.declared.core_form.Core.{Core, map-Core}
+use Rattle.fr_core.specs.declared.core_form.Core.TheVariants as core
+use Rattle.fr_core.specs.declared.core_form.Core.TheVariants.{outs-Let, outs-Apply, outs-Operator, outs-Handler, outs-Loop}
 use Rattle.fr_core.specs.declared.core_form.Core.TheOpen.{Core-F}
-use Rattle.fr_core.specs.Shapes.{outer, inner, parts_in, entries, operator_takes, handler_parts, has_its_parts, all_true}
-use Rattle.fr_core.specs.WellFormed.{names_something, all_at}
+use Rattle.fr_core.specs.Shapes.{outer, inner, parts_in, parts_of, entries, operator_takes, handler_parts, has_its_parts}
+use Rattle.fr_core.specs.WellFormed.{names_something}
 use Rattle.fr_core.specs.Classes.{FunctionSet, closed_itself, pure_itself, body_passes}
+use Rattle.fr_core.proofs.PartLists.{parts-outer, parts-body}
 
 -- lists of parts
 
@@ -25,6 +31,25 @@ map-map g f (x ∷ xs) = ap (λ l. g (f x) ∷ l) (map-map g f xs)
 second-map : {X Y : Type 0} (f : X → Y) (xs : List (ℕ × X)) → map (λ (y : ℕ × Y). y.1) (map (λ x. (x.0, f x.1)) xs) ≡ map f (map (λ x. x.1) xs)
 second-map f [] = refl
 second-map f (x ∷ xs) = ap (λ l. f x.1 ∷ l) (second-map f xs)
+
+-- the parts of an expression that is one of several shapes
+
+-- it has a list of parts alone
+abbrev pub HasList : Core → List Core → Type 0
+HasList e es = ((f : FunId) × (e ≡ core.Apply f es)) ⊎ ((o : Operator) × (e ≡ core.Operator o es))
+
+pub list_parts : (e : Core) (es : List Core) → HasList e es → parts_of e ≡ es
+list_parts e es (inl h) = ap parts_of h.1 ∙ (ap parts_in (outs-Apply h.0 es) ∙ parts-outer es)
+list_parts e es (inr h) = ap parts_of h.1 ∙ (ap parts_in (outs-Operator h.0 es) ∙ parts-outer es)
+
+-- it has a body behind a list of parts
+abbrev pub HasBody : Core → List Core → Core → Type 0
+HasBody e es b = (e ≡ core.Let es b) ⊎ (((h : Handler) × (e ≡ core.Handler h es b)) ⊎ ((l : Loop) × (e ≡ core.Loop l es b)))
+
+pub body_parts : (e : Core) (es : List Core) (b : Core) → HasBody e es b → parts_of e ≡ es ++ b ∷ []
+body_parts e es b (inl h) = ap parts_of h ∙ (ap parts_in (outs-Let es b) ∙ parts-body es _ b)
+body_parts e es b (inr (inl h)) = ap parts_of h.1 ∙ (ap parts_in (outs-Handler h.0 es b) ∙ parts-body es _ b)
+body_parts e es b (inr (inr h)) = ap parts_of h.1 ∙ (ap parts_in (outs-Loop h.0 es b) ∙ parts-body es _ b)
 
 -- the parts of an expression over others
 

@@ -1,5 +1,5 @@
 -- Which functions of a program are closed, which are pure, and which expressions are pure or fit.
-use Rattle.std.specs.Prelude.{ℕ, ◌≡◌, ◌==◌, ◌&&◌, Bool, true, false, List, [], ◌∷◌, map, length, slice_get, Option, Some, None}
+use Rattle.std.specs.Prelude.{ℕ, ◌≡◌, ◌==◌, ◌&&◌, Bool, true, false, List, map, length, slice_get, Option, Some, None}
 use Rattle.fr_core.specs.WellFormed.{Root, roots}
 use Rattle.fr_core.specs.declared.core_form.Core.{Core, fold-Core}
 use Rattle.fr_core.specs.declared.core_form.Core.TheOpen.{Core-F}

@@ -1,5 +1,6 @@
 -- What tells the forms of a shape apart, and the parts of an expression.
-use Rattle.std.specs.Prelude.{ℕ, ◌==◌, ◌&&◌, Bool, true, false, List, [], ◌∷◌, ◌++◌, map, length}
+use Rattle.std.specs.Prelude.{ℕ, ◌==◌, ◌&&◌, Bool, true, List, [], ◌∷◌, ◌++◌, map, length}
+use Rattle.fr_core.specs.declared.core_form.Core.{Core, out-Core}
 use Rattle.fr_core.specs.declared.core_form.Core.TheOpen.{Core-F}
 use Rattle.fr_core.specs.declared.core_form.Operator.{Operator}
 use Rattle.fr_core.specs.declared.core_form.Operator.TheVariants as operator
@@ -54,9 +55,13 @@ inner (Core-F.Handler h es b) = outer es ++ (handler_binds h, b) ∷ []
 inner (Core-F.Loop l es b) = outer es ++ (loop_binds l, b) ∷ []
 inner (Core-F.Feedback a b) = (0, a) ∷ (1, b) ∷ []
 
--- the parts of an expression in their order
+-- these parts alone
 abbrev pub parts_in : {X : Type 0} → Core-F X → List X
 parts_in f = map (λ x. x.1) (inner f)
+
+-- the parts of an expression in their order
+abbrev pub parts_of : Core → List Core
+parts_of e = parts_in (out-Core e)
 
 -- the number of entries of the list that an expression has itself
 abbrev pub entries : {X : Type 0} → Core-F X → ℕ

@@ -22,7 +22,7 @@ parts_at (Low-F.Feedback a b) = a ∷ b ∷ []
 parts_at (Low-F.Collapse k ss) = []
 
 -- the parts of an expression, in the order in which they are evaluated
-unfoldable pub parts : Low → List Low
+abbrev pub parts : Low → List Low
 parts e = parts_at (out-Low e)
 
 abbrev pub site_at : Low-F Low → Option SiteId
@@ -30,7 +30,7 @@ site_at (Low-F.If s a b c) = Some s
 site_at _ = None
 
 -- the site that the expression itself carries
-unfoldable pub site_of : Low → Option SiteId
+abbrev pub site_of : Low → Option SiteId
 site_of e = site_at (out-Low e)
 
 -- the expression at a path below one: the number of a part, counted from 0, then that of a part of it, and so on

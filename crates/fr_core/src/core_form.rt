@@ -1,5 +1,9 @@
+ghost use Rattle.std.specs.Prelude.{◌≡◌, ◌<◌, slice_get, OnSome};
+ghost use Rattle.std.specs.Option.{option_copied};
+ghost use Rattle.fr_core.specs.Shapes.{parts_of};
+
 use fr_value::{FunId, Primitive, SrcId, Value, VarId};
-use sqlite_items::{Boxed, Items};
+use sqlite_items::{Boxed, Items, at};
 
 /// A form whose value follows from the values of its parts, and from its cell where it keeps one.
 #[derive(Clone, Copy, Debug, PartialEq, Eq)]
@@ -73,4 +77,27 @@ pub enum Core {
     /// The value that its variable has at the first instant, and the body, which binds that variable; at a later
     /// instant the variable has the body's value of the instant before.
     Feedback(Boxed<Core>, Boxed<Core>),
+}
+
+impl Core {
+    /// The part of a number, which counts from 0 in the order of the parts, a body last; None where there is none.
+    pub fn part(&self, number: usize) -> Option<&Core>
+        ensures value { option_copied result ≡ slice_get (parts_of self.now) number }
+        ensures within { OnSome result (number < usize.MAX) }
+    {
+        match self {
+            Core::Lit(_) | Core::Var(_) | Core::Source(_) => None,
+            Core::Apply(_, es) | Core::Operator(_, es) => at(es.as_slice(), number),
+            Core::Let(es, body) | Core::Handler(_, es, body) | Core::Loop(_, es, body) => {
+                let entries = es.as_slice();
+                if number == entries.len() {
+                    Some(body.get())
+                } else {
+                    at(entries, number)
+                }
+            }
+            Core::If(a, b, c) => [a.get(), b.get(), c.get()].get(number).copied(),
+            Core::Feedback(a, b) => [a.get(), b.get()].get(number).copied(),
+        }
+    }
 }

@@ -1,7 +1,11 @@
+ghost use Rattle.std.specs.Prelude.{◌≡◌, ◌<◌, slice_get, OnSome};
+ghost use Rattle.std.specs.Option.{option_copied};
+ghost use Rattle.fr_core.specs.Sites.{parts};
+
 use crate::core_form::{Handler, Loop, Operator};
 use crate::program::{Event, Input};
 use fr_value::{FunId, KernId, Name, SiteId, SrcId, Value, VarId};
-use sqlite_items::{Boxed, Items};
+use sqlite_items::{Boxed, Items, at};
 
 /// What a kernel reads from its place.
 #[derive(Clone, Copy, Debug, PartialEq, Eq)]
@@ -40,6 +44,32 @@ pub enum Low {
     Feedback(Boxed<Low>, Boxed<Low>),
     /// A pure expression that is computed as a whole.
     Collapse(KernId, Items<Slot>),
+}
+
+impl Low {
+    /// The part of a number, which counts from 0 in the order of the parts; None where there is none.
+    pub fn part(&self, number: usize) -> Option<&Low>
+        ensures value { option_copied result ≡ slice_get (parts self.now) number }
+        ensures within { OnSome result (number < usize.MAX) }
+    {
+        match self {
+            Low::Lit(_) | Low::Var(_) | Low::Source(_) | Low::Collapse(_, _) => None,
+            Low::Apply(_, es)
+            | Low::Operator(_, es)
+            | Low::Handler(_, es, _, _)
+            | Low::Loop(_, es, _, _) => at(es.as_slice(), number),
+            Low::Let(es, body) => {
+                let entries = es.as_slice();
+                if number == entries.len() {
+                    Some(body.get())
+                } else {
+                    at(entries, number)
+                }
+            }
+            Low::If(_, a, b, c) => [a.get(), b.get(), c.get()].get(number).copied(),
+            Low::Feedback(a, b) => [a.get(), b.get()].get(number).copied(),
+        }
+    }
 }
 
 /// A global function. Its parameters are the variables from 0 on.

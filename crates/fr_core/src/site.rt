@@ -1,6 +1,6 @@
 ghost use Rattle.std.specs.Prelude.{◌≡◌, [], ◌∷◌, IsTrue, ◌↔◌, Some, map};
 ghost use Rattle.std.specs.Option.{option_copied};
-ghost use Rattle.fr_core.specs.Sites.{Finds, parts, site_of, bodies, item_expr};
+ghost use Rattle.fr_core.specs.Sites.{Finds, site_of, bodies, item_expr};
 
 use crate::lowered::{Low, LowFunction, LowItem, Lowered};
 use fr_value::SiteId;
@@ -16,52 +16,18 @@ fn carries(e: &Low, site: SiteId) -> bool
 }
 
 /// The expression that carries the site among this one and what stands in it.
-#[cycle(site)]
 fn site_in(e: &Low, site: SiteId) -> Option<&Low>
     ensures { Finds site (e.now ∷ []) (option_copied result) }
 {
     if carries(e, site) {
         return Some(e);
     }
-    site_in_parts(e, site)
-}
-
-#[cycle(site)]
-fn site_in_parts(e: &Low, site: SiteId) -> Option<&Low>
-    ensures { Finds site (parts e.now) (option_copied result) }
-{
-    match e {
-        Low::Lit(_) | Low::Var(_) | Low::Source(_) | Low::Collapse(_, _) => None,
-        Low::Let(es, body) => match site_in_each(es.as_slice(), site) {
-            Some(found) => Some(found),
-            None => site_in(body.get(), site),
-        },
-        Low::Apply(_, es)
-        | Low::Operator(_, es)
-        | Low::Handler(_, es, _, _)
-        | Low::Loop(_, es, _, _) => site_in_each(es.as_slice(), site),
-        Low::If(_, a, b, c) => match site_in(a.get(), site) {
-            Some(found) => Some(found),
-            None => match site_in(b.get(), site) {
-                Some(found) => Some(found),
-                None => site_in(c.get(), site),
-            },
-        },
-        Low::Feedback(a, b) => match site_in(a.get(), site) {
-            Some(found) => Some(found),
-            None => site_in(b.get(), site),
-        },
-    }
-}
-
-#[cycle(site)]
-fn site_in_each(es: &[Low], site: SiteId) -> Option<&Low>
-    ensures { Finds site es.now (option_copied result) }
-{
-    for e in es {
-        if let Some(found) = site_in(e, site) {
+    let mut number = 0;
+    while let Some(part) = e.part(number) {
+        if let Some(found) = site_in(part, site) {
             return Some(found);
         }
+        number += 1;
     }
     None
 }

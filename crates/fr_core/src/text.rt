@@ -43,42 +43,16 @@ fn label_into(out: &mut Vec<u8>, e: &Core) -> Result<(), AllocError> {
 }
 
 /// A space and an expression, in brackets.
-#[cycle(text)]
 fn core_into(out: &mut Vec<u8>, e: &Core) -> Result<(), AllocError> {
     word_into(out, " (")?;
     word_into(out, core_word(e))?;
     label_into(out, e)?;
-    parts_into(out, e)?;
-    out.push(b')')?;
-    Ok(())
-}
-
-#[cycle(text)]
-fn parts_into(out: &mut Vec<u8>, e: &Core) -> Result<(), AllocError> {
-    match e {
-        Core::Lit(_) | Core::Var(_) | Core::Source(_) => Ok(()),
-        Core::Apply(_, parts) | Core::Operator(_, parts) => each_into(out, parts.as_slice()),
-        Core::Let(parts, body) | Core::Handler(_, parts, body) | Core::Loop(_, parts, body) => {
-            each_into(out, parts.as_slice())?;
-            core_into(out, body.get())
-        }
-        Core::If(a, b, c) => {
-            core_into(out, a.get())?;
-            core_into(out, b.get())?;
-            core_into(out, c.get())
-        }
-        Core::Feedback(a, b) => {
-            core_into(out, a.get())?;
-            core_into(out, b.get())
-        }
-    }
-}
-
-#[cycle(text)]
-fn each_into(out: &mut Vec<u8>, parts: &[Core]) -> Result<(), AllocError> {
-    for part in parts {
+    let mut number = 0;
+    while let Some(part) = e.part(number) {
         core_into(out, part)?;
+        number += 1;
     }
+    out.push(b')')?;
     Ok(())
 }
 

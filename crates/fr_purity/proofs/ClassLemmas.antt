@@ -2,6 +2,8 @@
 use Rattle.std.proofs.Common.{ℕ, zero, suc, ◌≡◌, ◌+◌, ◌<◌, ◌≤◌, ◌↔◌, IsTrue, Bool, true, false, ◌&&◌, List, [], ◌∷◌, inl, inr, length, map, get_or, slice_get, Some, refl, sym, ap, ◌∙◌, subst, arith, lt-ltb, ltb-true, zero-add}
 use Rattle.std.proofs.lemmas.Bool.{and_parts, and_from, cases_lt, both_ways}
 use Rattle.std.proofs.lemmas.List.{get_or_past, length-map}
+use Rattle.std.proofs.lemmas.Option.{get_or_from_slice_get, slice_get-map, slice_get_cases, slice_get_within}
+use Rattle.std.specs.Option.{option_map}
 use Rattle.fr_core.specs.Classes.{FunctionSet, names_only, calls_of, ClosedOver, IsClosed, PureOver, FitsPure, IsPure, IsPureExpr, IsFitExpr}
 use Rattle.fr_core.specs.declared.core_form.Core.{Core}
 use Rattle.fr_core.specs.declared.program.Function.{Function}
@@ -13,28 +15,16 @@ use Rattle.fr_purity.specs.Removal.{has, list_at, called_by, AreCallers, CallsMe
 use Rattle.fr_purity.proofs.Parts.{pure_in, fit_in}
 use Rattle.fr_purity.proofs.Splits.{names_over, names_members, pure_over, pure_members, fit_grows}
 
--- an item that is there is within the list
-within_list : {A : Type 0} (xs : List A) (i : ℕ) (x : A) → slice_get xs i ≡ Some x → i < length xs
-within_list [] i x h = absurd cc
-within_list (y ∷ ys) zero x h = omega arith
-within_list (y ∷ ys) (suc i) x h = omega (arith, within_list ys i x h)
-
 -- an item within the list is there
 there : {A : Type 0} (xs : List A) (i : ℕ) → i < length xs → (x : A) × (slice_get xs i ≡ Some x)
-there [] i h = absurd (omega (arith, h))
-there (y ∷ ys) zero h = (y, refl)
-there (y ∷ ys) (suc i) h = there ys i (omega (arith, h))
+there xs i h = elim (slice_get_cases xs i).1 [ inl is ↦ (is.0, is.2) | inr past ↦ absurd (omega (arith, past.0, h)) ]
 
 mapped_at : {A B : Type 0} (f : A → B) (xs : List A) (i : ℕ) (x : A) (d : B) → slice_get xs i ≡ Some x → get_or (map f xs) i d ≡ f x
-mapped_at f [] i x d h = absurd cc
-mapped_at f (y ∷ ys) zero x d h = ap f cc
-mapped_at f (y ∷ ys) (suc i) x d h = mapped_at f ys i x d h
+mapped_at f xs i x d h = get_or_from_slice_get (map f xs) i (f x) d (slice_get-map f xs i ∙ ap (option_map f) h)
 
 -- what is marked is within the list
 marked_within : (marks : List Bool) (f : ℕ) → set_of marks f ≡ true → f < length marks
-marked_within [] f h = absurd cc
-marked_within (b ∷ bs) zero h = omega arith
-marked_within (b ∷ bs) (suc f) h = omega (arith, marked_within bs f h)
+marked_within marks f h = elim (cases_lt f (length marks)) [ inl short ↦ short | inr past ↦ absurd (both_ways (set_of marks f) (get_or_past marks f false past) h) ]
 
 nothing_at : (xss : List (List ℕ)) (n m : ℕ) → length xss ≤ n → has (list_at xss n) m ≡ false
 nothing_at xss n m h = ap (λ l. has l m) (get_or_past xss n [] h)
@@ -88,7 +78,7 @@ closed_left p callers first kept table first_is size greatest f =
           let within : IsWithin c.set (set_of first) = λ g h.
           let o = c.fits.fits g h in
           first_at g o.function o.stands ∙ names_over c.set known o.function.body o.body (λ n k.
-          let q = c.fits.fits n (names_members c.set o.function.body n o.body k) in lt-ltb n (length functions) (within_list functions n q.function q.stands)) in
+          let q = c.fits.fits n (names_members c.set o.function.body n o.body k) in lt-ltb n (length functions) (slice_get_within functions n q.function q.stands)) in
           let calls_own : (g : ℕ) → c.set g ≡ true → MemberCalls p c.set g = λ g h.
           let o = c.fits.fits g h in record { function = o.function; stands = o.stands; called = λ n k. names_members c.set o.function.body n o.body k } in
           greatest.greatest c.set within (members_call p callers c.set table calls_own) f c.member),

@@ -1,8 +1,3 @@
-pub mod Ands
-pub mod Appends
-pub mod CallForms
-pub mod Forms
-pub mod JudgedForms
 pub mod Parts
 pub mod Listing
 pub mod Marking

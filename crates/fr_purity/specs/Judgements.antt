@@ -9,6 +9,10 @@ use Rattle.fr_purity.specs.declared.judging.Judgement.{Judgement}
 abbrev pub judged : Judgement → Judged
 judged j = record { pure = j.pure; fit = j.fit }
 
+-- pure where both are, and fit where both are
+abbrev pub both : Judged → Judged → Judged
+both a b = record { pure = a.pure && b.pure; fit = a.fit && b.fit }
+
 -- for each function from this number on whether it is a member and its body is pure where calls of members are
 abbrev pub pure_bodies : Program → FunctionSet → ℕ → List Function → List Bool
 pure_bodies p s n [] = []

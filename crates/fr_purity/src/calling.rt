@@ -1,55 +1,34 @@
-ghost use Rattle.std.specs.Prelude.{◌≡◌, ℕ, ◌++◌, [], length, map, IfOk, OnOk};
-ghost use Rattle.std.specs.List.{concat};
-ghost use Rattle.fr_purity.specs.Calls.{calls};
+ghost use Rattle.std.specs.Prelude.{◌≡◌, ℕ, ◌++◌, [], length, IfOk, OnOk};
+ghost use Rattle.fr_core.specs.declared.core_form.Core.{out-Core};
+ghost use Rattle.fr_purity.specs.Calls.{calls_itself, calls};
 ghost use Rattle.fr_purity.specs.Removal.{AreCallers, called_by, list_at, with_caller};
 
 use fr_core::{Core, Function};
 use sqlite_items::Items;
 use std::alloc::{AllocError, Global};
 
-/// Appends the number of the function of each call in an expression.
-#[cycle(calling)]
-pub fn calls_into(called: &mut Vec<u32>, e: &Core) -> Result<(), AllocError>
-    ensures { OnOk result (called.new.items ≡ called.old.items ++ calls e.now) }
+/// Appends the number of the function where an expression itself is a call.
+fn own_call_into(called: &mut Vec<u32>, e: &Core) -> Result<(), AllocError>
+    ensures { OnOk result (called.new.items ≡ called.old.items ++ calls_itself (out-Core e.now)) }
 {
     match e {
-        Core::Lit(_) | Core::Var(_) | Core::Source(_) => Ok(()),
-        Core::Let(parts, body) => {
-            each_calls_into(called, parts.as_slice())?;
-            calls_into(called, body.get())
-        }
-        Core::Apply(function, parts) => {
+        Core::Apply(function, _) => {
             called.push(function.0)?;
-            each_calls_into(called, parts.as_slice())
+            Ok(())
         }
-        Core::PrimApp(_, parts) | Core::MergeE(parts) => each_calls_into(called, parts.as_slice()),
-        Core::If(a, b, c)
-        | Core::Fold(a, b, c)
-        | Core::Repeat(a, b, c)
-        | Core::CollectB(a, b, c)
-        | Core::CollectE(a, b, c) => {
-            calls_into(called, a.get())?;
-            calls_into(called, b.get())?;
-            calls_into(called, c.get())
-        }
-        Core::MapE(a, b)
-        | Core::FilterE(a, b)
-        | Core::Hold(a, b)
-        | Core::Delay(a, b)
-        | Core::Feedback(a, b) => {
-            calls_into(called, a.get())?;
-            calls_into(called, b.get())
-        }
-        Core::Changes(a) | Core::OnceE(a) | Core::DelayE(a) => calls_into(called, a.get()),
+        _ => Ok(()),
     }
 }
 
-#[cycle(calling)]
-fn each_calls_into(called: &mut Vec<u32>, parts: &[Core]) -> Result<(), AllocError>
-    ensures { OnOk result (called.new.items ≡ called.old.items ++ concat (map calls parts.now)) }
+/// Appends the number of the function of each call in an expression.
+pub fn calls_into(called: &mut Vec<u32>, e: &Core) -> Result<(), AllocError>
+    ensures { OnOk result (called.new.items ≡ called.old.items ++ calls e.now) }
 {
-    for part in parts {
+    own_call_into(called, e)?;
+    let mut number = 0;
+    while let Some(part) = e.part(number) {
         calls_into(called, part)?;
+        number += 1;
     }
     Ok(())
 }

@@ -1,9 +1,10 @@
-ghost use Rattle.std.specs.Prelude.{◌≡◌, ◌&&◌, map, true, IfOk};
-ghost use Rattle.fr_core.specs.Classes.{judge, calls_of, sound, both, all_of, body_of, impure};
+ghost use Rattle.std.specs.Prelude.{◌≡◌, ◌&&◌, IfOk};
+ghost use Rattle.fr_core.specs.Classes.{judge, calls_of, pure_itself, body_passes};
+ghost use Rattle.fr_core.specs.declared.core_form.Core.{out-Core};
 ghost use Rattle.fr_purity.specs.Marks.{set_of};
-ghost use Rattle.fr_purity.specs.Judgements.{judged, pure_bodies};
+ghost use Rattle.fr_purity.specs.Judgements.{judged, both, pure_bodies};
 
-use fr_core::{Core, Program};
+use fr_core::{Core, Operator, Program};
 use fr_value::FunId;
 use std::alloc::{AllocError, Global};
 
@@ -17,51 +18,13 @@ pub struct Judgement {
 }
 
 impl Judgement {
-    fn sound() -> Judgement
-        ensures { judged result ≡ sound }
-    {
-        Judgement {
-            pure: true,
-            fit: true,
-        }
-    }
-
+    /// What is found of both.
     fn and(self, other: Judgement) -> Judgement
         ensures { judged result ≡ both (judged self) (judged other) }
     {
         Judgement {
             pure: self.pure && other.pure,
             fit: self.fit && other.fit,
-        }
-    }
-
-    /// The same for a body that has to be pure to fit.
-    fn of_body(self) -> Judgement
-        ensures { judged result ≡ body_of (judged self) }
-    {
-        Judgement {
-            pure: self.pure,
-            fit: self.pure && self.fit,
-        }
-    }
-
-    /// The same for a form that isn't pure.
-    fn impure(self) -> Judgement
-        ensures { judged result ≡ impure (judged self) }
-    {
-        Judgement {
-            pure: false,
-            fit: self.fit,
-        }
-    }
-
-    /// The same for a call with these arguments.
-    fn of_call(self, is_pure: bool) -> Judgement
-        ensures { judged result ≡ both (record { pure = is_pure; fit = true }) (judged self) }
-    {
-        Judgement {
-            pure: is_pure && self.pure,
-            fit: self.fit,
         }
     }
 }
@@ -86,64 +49,49 @@ fn is_pure_call(program: &Program, marks: &[bool], function: FunId, arguments: u
     }
 }
 
-/// Judges an expression of a program where the functions that are marked are pure.
-#[cycle(judging)]
-pub fn judge(program: &Program, marks: &[bool], e: &Core) -> Judgement
-    ensures { judged result ≡ judge (calls_of program.now (set_of marks.now)) e.now }
+/// Whether an expression itself has no state and is none of an event, and its call is pure where it is one.
+fn is_pure_itself(program: &Program, marks: &[bool], e: &Core) -> bool
+    ensures { result ≡ pure_itself (calls_of program.now (set_of marks.now)) (out-Core e.now) }
 {
     match e {
-        Core::Lit(_) | Core::Var(_) | Core::Source(_) => Judgement::sound(),
-        Core::Let(parts, body) => {
-            let values = judge_each(program, marks, parts.as_slice());
-            values.and(judge(program, marks, body.get()))
-        }
-        Core::If(a, b, c) => {
-            let test = judge(program, marks, a.get());
-            let first = judge(program, marks, b.get());
-            test.and(first.and(judge(program, marks, c.get())))
-        }
-        Core::Apply(function, parts) => {
-            let is_pure = is_pure_call(program, marks, *function, parts.len());
-            judge_each(program, marks, parts.as_slice()).of_call(is_pure)
-        }
-        Core::PrimApp(_, parts) => judge_each(program, marks, parts.as_slice()),
-        Core::Fold(a, b, body) | Core::Repeat(a, b, body) => {
-            let first = judge(program, marks, a.get());
-            let turns = judge(program, marks, b.get());
-            first.and(turns.and(judge(program, marks, body.get()).of_body()))
-        }
-        Core::CollectB(a, b, body) | Core::CollectE(a, b, body) => {
-            let event = judge(program, marks, a.get());
-            let first = judge(program, marks, b.get());
-            let rest = first.and(judge(program, marks, body.get()).of_body());
-            event.and(rest).impure()
-        }
-        Core::MapE(a, body) | Core::FilterE(a, body) => {
-            let event = judge(program, marks, a.get());
-            event
-                .and(judge(program, marks, body.get()).of_body())
-                .impure()
-        }
-        Core::Hold(a, b) | Core::Delay(a, b) | Core::Feedback(a, b) => {
-            let first = judge(program, marks, a.get());
-            first.and(judge(program, marks, b.get())).impure()
-        }
-        Core::MergeE(parts) => judge_each(program, marks, parts.as_slice()).impure(),
-        Core::Changes(a) | Core::OnceE(a) | Core::DelayE(a) => {
-            judge(program, marks, a.get()).impure()
-        }
+        Core::Apply(function, parts) => is_pure_call(program, marks, *function, parts.len()),
+        Core::Operator(Operator::Prim(_), _) => true,
+        Core::Operator(_, _) | Core::Handler(_, _, _) | Core::Feedback(_, _) => false,
+        _ => true,
     }
 }
 
-#[cycle(judging)]
-fn judge_each(program: &Program, marks: &[bool], parts: &[Core]) -> Judgement
-    ensures { judged result ≡ all_of (map (judge (calls_of program.now (set_of marks.now))) parts.now) }
+/// What is told of an expression by its body, which is pure or not, where the expression itself is a handler or a loop.
+fn body_allows(e: &Core, is_pure: bool) -> bool
+    ensures { result ≡ body_passes (λ _. is_pure) (out-Core e.now) }
 {
-    let mut all = Judgement::sound();
-    for part in parts {
-        all = all.and(judge(program, marks, part));
+    match e {
+        Core::Handler(_, _, _) | Core::Loop(_, _, _) => is_pure,
+        _ => true,
     }
-    all
+}
+
+/// Judges an expression of a program where the functions that are marked are pure.
+pub fn judge(program: &Program, marks: &[bool], e: &Core) -> Judgement
+    ensures { judged result ≡ judge (calls_of program.now (set_of marks.now)) e.now }
+{
+    let mut all = Judgement {
+        pure: is_pure_itself(program, marks, e),
+        fit: true,
+    };
+    // a body is the last part
+    let mut last_is_pure = true;
+    let mut number = 0;
+    while let Some(part) = e.part(number) {
+        let found = judge(program, marks, part);
+        all = all.and(found);
+        last_is_pure = found.pure;
+        number += 1;
+    }
+    all.and(Judgement {
+        pure: true,
+        fit: body_allows(e, last_is_pure),
+    })
 }
 
 /// Whether a function is marked, and its body is pure where the functions that are marked are.

@@ -1,4 +1,4 @@
-use fr_core::{Low, LowFunction, LowItem, Lowered};
+use fr_core::{Handler, Low, LowFunction, LowItem, Lowered};
 use fr_value::{KernId, Name, SiteId, Value};
 use sqlite_items::{Boxed, Items};
 use std::alloc::{AllocError, Global};
@@ -30,9 +30,11 @@ fn functions(alloc: Global) -> Result<Items<LowFunction>, AllocError> {
 fn body(alloc: Global) -> Result<Items<LowItem>, AllocError> {
     let name = Name::from_str(alloc, "y")?;
     let inner = Boxed::new(alloc, choice(alloc, 20, part(alloc, 1)?)?)?;
-    let event = Boxed::new(alloc, choice(alloc, 30, inner)?)?;
+    let mut event = Items::new(alloc);
+    event.push(choice(alloc, 30, inner)?)?;
+    let shown = Low::Handler(Handler::MapE, event, KernId(0), Items::new(alloc));
     let mut body = Items::new(alloc);
-    body.push(LowItem::Show(name, Low::MapE(event, KernId(0), Items::new(alloc))))?;
+    body.push(LowItem::Show(name, shown))?;
     Ok(body)
 }
 
