@@ -2,7 +2,7 @@
 use Rattle.std.proofs.Common.{◌≡◌, ◌+◌, ◌-◌, ◌<◌, ℕ, zero, suc, List, [], ◌∷◌, get_or, length, map, drop, take, max, min, sym, ap, ◌∙◌, subst, arith}
 use Rattle.std.proofs.lemmas.List.{length-map}
 use Rattle.fr_syntax.specs.declared.expr.Expr.{Expr}
-use Rattle.fr_expand.specs.Depths.{depth, around, cond_depth}
+use Rattle.fr_expand.specs.Depths.{depth, around}
 
 -- the depths from a place on begin with that of the part there
 depths_at : (es : List Expr) (count i : ℕ) (e : Expr) → i < count → i < length es → e ≡ get_or es i e
@@ -30,8 +30,5 @@ pub around_capped : (ds : List ℕ) (last : ℕ) → min 501 (around ds (min 501
 around_capped [] last = omega arith
 around_capped (d ∷ ds) last = omega (arith, around_capped ds last)
 
--- the tests of a `cond` and its parts, each counted alone
-pub cond_counted : (ts es : List Expr) (other a b both : ℕ) → a ≡ min 501 (around (take (length es) (map depth ts)) (min 501 other))
-    → b ≡ min 501 (around (take (length ts) (map depth es)) (min 501 other)) → both ≡ max a b → both ≡ min 501 (cond_depth (map depth ts) (map depth es) other)
-cond_counted ts es other a b both h k m = rw (length-map es depth, length-map ts depth)
-    (omega (arith, h ∙ around_capped (take (length es) (map depth ts)) other, k ∙ around_capped (take (length ts) (map depth es)) other))
+-- how the depth of what is chained is counted
+pub ruleset capped = (around_capped, length-map)

@@ -7,6 +7,7 @@ use Rattle.fr_core.specs.declared.program.Program.{Program}
 use Rattle.fr_core.specs.Classes.{IsFit}
 use Rattle.fr_core.specs.WellFormed.{IsWellFormed, count, roots}
 use Rattle.fr_syntax.specs.Outlines.{Global}
+use Rattle.fr_syntax.specs.Weights.{form_weight}
 use Rattle.fr_syntax.specs.declared.form.Form.{Form}
 use Rattle.fr_scope.specs.Meanings.{globals_in}
 use Rattle.fr_expand.specs.declared.refusal.Kind.TheVariants as kind
@@ -95,13 +96,10 @@ module _ (ds : List Datum) (globals : List Global) (fs : List Form) (g : globals
       (of_data (λ names forms. AreFit p (cores_by forms p.functions p.body)) ds globals fs g f fits)
 
   pub finds_well_formed : (x : Option Refusal) (p : Program) → x ≡ None → x ≡ refused_in globals 1 nothing_yet fs → length ds ≤ length fs → p ≡ program_in globals fs
-      → total (map datum_size ds) ≤ 8388608 → IsWellFormed p
+      → total (map datum_size ds) ≤ 8388608 → IsWellFormed p × (total (map (λ r. count r.expr) (roots p)) < 268435456)
   finds_well_formed x p is found all e small =
       let none = of_data (λ names forms. None ≡ refused_in names 1 nothing_yet forms) ds globals fs g f (sym is ∙ found) in
-      let made = of_data (λ names forms. p ≡ program_in names forms) ds globals fs g f e in
-      subst IsWellFormed (sym made) (well_formed ds none (of_data (λ names forms. length ds ≤ length forms) ds globals fs g f all) (omega (arith, small, shaped_small ds)))
-
-  pub finds_few : (p : Program) → p ≡ program_in globals fs → total (map datum_size ds) ≤ 8388608 → total (map (λ r. count r.expr) (roots p)) < 268435456
-  finds_few p e small =
-      let made = of_data (λ names forms. p ≡ program_in names forms) ds globals fs g f e in
-      subst (λ q. total (map (λ r. count r.expr) (roots q)) < 268435456) (sym made) (few_counted ds (omega (arith, small, shaped_small ds)))
+      let whole = of_data (λ names forms. length ds ≤ length forms) ds globals fs g f all in
+      let light : total (map form_weight (shaped ds)) ≤ 8388608 = omega (arith, small, shaped_small ds) in
+      subst (λ q. IsWellFormed q × (total (map (λ r. count r.expr) (roots q)) < 268435456)) (sym (of_data (λ names forms. p ≡ program_in names forms) ds globals fs g f e))
+      (well_formed ds none whole light, few_counted ds none whole light)

@@ -1,19 +1,17 @@
-pub mod DepthForms
-pub mod CoreForms
-pub mod FaultForms
+pub mod Opened
+pub mod OfParts
+pub mod Views
 pub mod Nested
 mod Chains
 mod Walks
-mod FaultArms
 mod Repeats
-mod SharedArms
 pub mod Among
 pub mod Bound
 pub mod DistinctNames
 pub mod Expanded
 pub mod Fits
 pub mod Fresh
-pub mod Measured
+pub mod Within
 pub mod Members
 pub mod Numbered
 pub mod OneExpansion
@@ -22,7 +20,7 @@ pub mod Parsed
 pub mod Passed
 pub mod Refusals
 pub mod Roots
-pub mod ScopedCores
+pub mod Translated
 pub mod Sizes
 pub mod Sound
 pub mod Unfit

@@ -1,6 +1,6 @@
 -- What holds of each expression of a form that has a shape.
 use Rattle.std.specs.Prelude.{ℕ, zero, suc, ◌≡◌, List, [], ◌∷◌, length, Option, Some, None}
-use Rattle.std.proofs.Common.{refl, ap}
+use Rattle.std.proofs.Common.{refl, sym, ap, subst}
 use Rattle.std.specs.Option.{option_map, option_and_then}
 use Rattle.fr_value.specs.Data.{value_of}
 use Rattle.fr_value.specs.declared.value.Datum.{Datum}
@@ -8,56 +8,29 @@ use Rattle.fr_value.specs.declared.value.Value.{Value}
 use Rattle.fr_value.specs.declared.value.Value.TheVariants as value
 use Rattle.fr_syntax.specs.declared.keyword.Keyword.{Keyword}
 use Rattle.fr_syntax.specs.declared.keyword.Keyword.TheVariants as keyword
-use Rattle.fr_syntax.specs.declared.expr.Expr.{Expr}
+use Rattle.fr_syntax.specs.declared.expr.Expr.{Expr, out-Expr}
+use Rattle.fr_syntax.specs.declared.expr.Expr.TheOpen.{Expr-F}
 use Rattle.fr_syntax.specs.declared.expr.Expr.TheVariants as expr
+use Rattle.fr_syntax.specs.declared.expr.Expr.TheVariants.{outs-Literal, outs-Name, outs-If, outs-Let, outs-LetStar, outs-Cond, outs-And, outs-Or, outs-Fold, outs-Repeat, outs-MapE, outs-FilterE, outs-MergeE, outs-Hold, outs-CollectB, outs-CollectE, outs-Changes, outs-OnceE, outs-Delay, outs-DelayE, outs-Feedback, outs-Call}
 use Rattle.fr_syntax.specs.declared.form.Form.{Form}
 use Rattle.fr_syntax.specs.declared.form.Form.TheVariants as form
 use Rattle.fr_syntax.specs.Keywords.{keyword_named}
 use Rattle.fr_syntax.specs.Outlines.{symbol_of, keyword_of}
 use Rattle.fr_syntax.specs.Shapes.{Below, Bindings, Clauses, items_of, one_in, two_in, three_in, each, both, triple, symbols, binding, bindings, let_form, else_with, else_clause, test_with, test_clause, clauses, lone_binding, fold_form, repeat_form, feedback_form, lambda_with, lambda_of, named_one, one_param, named_two, two_params, event_handler_form, collect_form, merge_form, one_part, two_parts, three_parts, keyword_form, named_form, expr_at, expr_to, expr_of, named_expr, function_with, define_at, form_with, form_at, form_of}
+use Rattle.fr_expand.specs.Shapes.{shape, shape_of}
+use Rattle.fr_expand.proofs.OfParts.{OfEach, OfParts, IsPaired}
 
 -- it holds of what is there
 abbrev pub Of : {A : Type 0} → (A → Type 0) → Option A → Type 0
 Of P None = Unit {0}
 Of P (Some a) = P a
 
--- it holds of each
-abbrev pub OfEach : (Expr → Type 0) → List Expr → Type 0
-OfEach P [] = Unit {0}
-OfEach P (e ∷ es) = P e × OfEach P es
-
 -- it holds of the expression of a form, if it has one
 abbrev pub OfForm : (Expr → Type 0) → Form → Type 0
-OfForm P (form.Input name v) = Unit {0}
-OfForm P (form.Event name) = Unit {0}
 OfForm P (form.Function name params body) = P body
 OfForm P (form.Define name e) = P e
 OfForm P (form.Show name e) = P e
-
--- it holds of an expression of each form where it holds of the parts
-pub record Closed (P : Expr → Type 0) : Type 0 where
-  pub at_literal : (v : Value) → P (expr.Literal v)
-  pub at_name : (x : List ℕ) → P (expr.Name x)
-  pub at_if : (a b c : Expr) → P a → P b → P c → P (expr.If a b c)
-  pub at_let : (xs : List (List ℕ)) (es : List Expr) (b : Expr) → length xs ≡ length es → OfEach P es → P b → P (expr.Let xs es b)
-  pub at_let_star : (xs : List (List ℕ)) (es : List Expr) (b : Expr) → length xs ≡ length es → OfEach P es → P b → P (expr.LetStar xs es b)
-  pub at_cond : (ts es : List Expr) (e : Expr) → OfEach P ts → OfEach P es → P e → P (expr.Cond ts es e)
-  pub at_and : (es : List Expr) → OfEach P es → P (expr.And es)
-  pub at_or : (es : List Expr) → OfEach P es → P (expr.Or es)
-  pub at_fold : (x y : List ℕ) (a b c : Expr) → P a → P b → P c → P (expr.Fold x y a b c)
-  pub at_repeat : (x : List ℕ) (a b c : Expr) → P a → P b → P c → P (expr.Repeat x a b c)
-  pub at_map_e : (x : List ℕ) (b e : Expr) → P b → P e → P (expr.MapE x b e)
-  pub at_filter_e : (x : List ℕ) (b e : Expr) → P b → P e → P (expr.FilterE x b e)
-  pub at_merge_e : (es : List Expr) → OfEach P es → P (expr.MergeE es)
-  pub at_hold : (a b : Expr) → P a → P b → P (expr.Hold a b)
-  pub at_collect_b : (a b : Expr) (x y : List ℕ) (c : Expr) → P a → P b → P c → P (expr.CollectB a b x y c)
-  pub at_collect_e : (a b : Expr) (x y : List ℕ) (c : Expr) → P a → P b → P c → P (expr.CollectE a b x y c)
-  pub at_changes : (a : Expr) → P a → P (expr.Changes a)
-  pub at_once_e : (a : Expr) → P a → P (expr.OnceE a)
-  pub at_delay : (a b : Expr) → P a → P b → P (expr.Delay a b)
-  pub at_delay_e : (a : Expr) → P a → P (expr.DelayE a)
-  pub at_feedback : (x : List ℕ) (a b : Expr) → P a → P b → P (expr.Feedback x a b)
-  pub at_call : (f : List ℕ) (es : List Expr) → OfEach P es → P (expr.Call f es)
+OfForm P f = Unit {0}
 
 then_of : {A B : Type 0} (P : A → Type 0) (Q : B → Type 0) (f : A → Option B) (o : Option A) → Of P o → ((a : A) → P a → Of Q (f a)) → Of Q (option_and_then f o)
 then_of P Q f None h g = tt
@@ -75,7 +48,11 @@ map_any : {A B : Type 0} (Q : B → Type 0) (f : A → B) (o : Option A) → ((a
 map_any Q f None g = tt
 map_any Q f (Some a) g = g a
 
-module _ (P : Expr → Type 0) (closed : Closed P) where
+module _ (P : Expr → Type 0) (closed : (e : Expr) → IsPaired (out-Expr e) → OfParts P (shape_of e) → P e) where
+  -- it holds of an expression of this form
+  made : (e : Expr) (f : Expr-F Expr) → out-Expr e ≡ f → IsPaired f → OfParts P (shape f) → P e
+  made e f x p h = closed e (subst IsPaired (sym x) p) (subst (λ y. OfParts P (shape y)) (sym x) h)
+
   abbrev Pair : Expr × Expr → Type 0
   Pair x = P x.0 × P x.1
 
@@ -149,16 +126,16 @@ module _ (P : Expr → Type 0) (closed : Closed P) where
     fold_of : (ds : List Datum) → Of P (fold_form below ds)
     fold_of ds =
         then_any P _ (three_in ds) (λ x. then_of Bound P _ (lone_binding below x.0) (lone_of x.0) (λ a h. then_of Bound P _ (lone_binding below x.1) (lone_of x.1)
-        (λ b k. map_of P P _ (below x.2) (holds x.2) (λ c l. closed.at_fold a.0 b.0 a.1 b.1 c h k l))))
+        (λ b k. map_of P P _ (below x.2) (holds x.2) (λ c l. made _ _ (outs-Fold a.0 b.0 a.1 b.1 c) tt ((h, (k, tt)), l)))))
 
     repeat_of : (ds : List Datum) → Of P (repeat_form below ds)
     repeat_of ds =
         then_any P _ (three_in ds) (λ x. then_of Bound P _ (binding below x.0) (binding_of x.0) (λ a h. then_of P P _ (below x.1) (holds x.1)
-        (λ n k. map_of P P _ (below x.2) (holds x.2) (λ c l. closed.at_repeat a.0 a.1 n c h k l))))
+        (λ n k. map_of P P _ (below x.2) (holds x.2) (λ c l. made _ _ (outs-Repeat a.0 a.1 n c) tt ((h, (k, tt)), l)))))
 
     feedback_of : (ds : List Datum) → Of P (feedback_form below ds)
     feedback_of ds =
-        then_any P _ (two_in ds) (λ x. then_of Bound P _ (binding below x.0) (binding_of x.0) (λ a h. map_of P P _ (below x.1) (holds x.1) (λ b k. closed.at_feedback a.0 a.1 b h k)))
+        then_any P _ (two_in ds) (λ x. then_of Bound P _ (binding below x.0) (binding_of x.0) (λ a h. map_of P P _ (below x.1) (holds x.1) (λ b k. made _ _ (outs-Feedback a.0 a.1 b) tt (h, k))))
 
     lambda_body : (k : Option Keyword) (x : Datum × Datum × Datum) → Of Handler (lambda_with below k x)
     lambda_body (Some keyword.Lambda) x = then_any Handler _ (option_and_then symbols (items_of (value_of x.1))) (λ ps. map_of P Handler _ (below x.2) (holds x.2) (λ b h. h))
@@ -168,15 +145,12 @@ module _ (P : Expr → Type 0) (closed : Closed P) where
     lambda_holds d = then_any Handler _ (option_and_then three_in (items_of (value_of d))) (λ x. lambda_body (keyword_of (value_of x.0)) x)
 
     named_once : (vs : List (List ℕ)) (b : Expr) → P b → Of Bound (named_one vs b)
-    named_once [] b h = tt
     named_once (v ∷ []) b h = h
-    named_once (v ∷ a ∷ vs) b h = tt
+    named_once _ b h = tt
 
     named_twice : (vs : List (List ℕ)) (b : Expr) → P b → Of Step (named_two vs b)
-    named_twice [] b h = tt
-    named_twice (v ∷ []) b h = tt
     named_twice (v ∷ a ∷ []) b h = h
-    named_twice (v ∷ a ∷ c ∷ vs) b h = tt
+    named_twice _ b h = tt
 
     handler_of : (make : List ℕ → Expr → Expr → Expr) → ((x : List ℕ) (b e : Expr) → P b → P e → P (make x b e)) → (ds : List Datum) → Of P (event_handler_form below make ds)
     handler_of make made ds =
@@ -191,9 +165,8 @@ module _ (P : Expr → Type 0) (closed : Closed P) where
         (λ s m. made e i s.0 s.1 s.2 h k m))))
 
     merge_of : (ds : List Datum) → Of P (merge_form below ds)
-    merge_of [] = tt
-    merge_of (a ∷ []) = tt
-    merge_of (a ∷ b ∷ ds) = map_of (OfEach P) P _ (each below (a ∷ b ∷ ds)) (each_of (a ∷ b ∷ ds)) closed.at_merge_e
+    merge_of (a ∷ b ∷ ds) = map_of (OfEach P) P _ (each below (a ∷ b ∷ ds)) (each_of (a ∷ b ∷ ds)) (λ es h. made _ _ (outs-MergeE es) tt h)
+    merge_of _ = tt
 
     one_of : (make : Expr → Expr) → ((a : Expr) → P a → P (make a)) → (ds : List Datum) → Of P (one_part below make ds)
     one_of make made ds = map_of P P _ (option_and_then below (one_in ds)) (then_any P below (one_in ds) holds) made
@@ -202,42 +175,40 @@ module _ (P : Expr → Type 0) (closed : Closed P) where
     two_of make made ds = map_of Pair P _ (option_and_then (both below) (two_in ds)) (then_any Pair (both below) (two_in ds) both_of) (λ x h. made x.0 x.1 h.0 h.1)
 
     three_of : (ds : List Datum) → Of P (three_parts below expr.If ds)
-    three_of ds = map_of Three P _ (option_and_then (triple below) (three_in ds)) (then_any Three (triple below) (three_in ds) triple_of) (λ x h. closed.at_if x.0 x.1 x.2 h.0 h.1 h.2)
+    three_of ds = map_of Three P _ (option_and_then (triple below) (three_in ds)) (then_any Three (triple below) (three_in ds) triple_of) (λ x h. made _ _ (outs-If x.0 x.1 x.2) tt h)
 
     keyword_holds : (k : Keyword) (ds : List Datum) → Of P (keyword_form below k ds)
-    keyword_holds keyword.Quote ds = map_any P _ (one_in ds) (λ d. closed.at_literal (value_of d))
+    keyword_holds keyword.Quote ds = map_any P _ (one_in ds) (λ d. made _ _ (outs-Literal (value_of d)) tt tt)
     keyword_holds keyword.If ds = three_of ds
-    keyword_holds keyword.Let ds = let_of expr.Let closed.at_let ds
-    keyword_holds keyword.LetStar ds = let_of expr.LetStar closed.at_let_star ds
-    keyword_holds keyword.Cond ds = map_of Clause P _ (clauses below ds) (clauses_of ds) (λ cs h. closed.at_cond cs.0 cs.1 cs.2 h.0 h.1 h.2)
-    keyword_holds keyword.And ds = map_of (OfEach P) P _ (each below ds) (each_of ds) closed.at_and
-    keyword_holds keyword.Or ds = map_of (OfEach P) P _ (each below ds) (each_of ds) closed.at_or
+    keyword_holds keyword.Let ds = let_of expr.Let (λ xs es b l h k. made _ _ (outs-Let xs es b) l (h, k)) ds
+    keyword_holds keyword.LetStar ds = let_of expr.LetStar (λ xs es b l h k. made _ _ (outs-LetStar xs es b) tt (h, k)) ds
+    keyword_holds keyword.Cond ds = map_of Clause P _ (clauses below ds) (clauses_of ds) (λ cs h. made _ _ (outs-Cond cs.0 cs.1 cs.2) tt h)
+    keyword_holds keyword.And ds = map_of (OfEach P) P _ (each below ds) (each_of ds) (λ es h. made _ _ (outs-And es) tt h)
+    keyword_holds keyword.Or ds = map_of (OfEach P) P _ (each below ds) (each_of ds) (λ es h. made _ _ (outs-Or es) tt h)
     keyword_holds keyword.ForFold ds = fold_of ds
     keyword_holds keyword.Repeat ds = repeat_of ds
-    keyword_holds keyword.MapE ds = handler_of expr.MapE closed.at_map_e ds
-    keyword_holds keyword.FilterE ds = handler_of expr.FilterE closed.at_filter_e ds
+    keyword_holds keyword.MapE ds = handler_of expr.MapE (λ x b e h k. made _ _ (outs-MapE x b e) tt ((k, tt), h)) ds
+    keyword_holds keyword.FilterE ds = handler_of expr.FilterE (λ x b e h k. made _ _ (outs-FilterE x b e) tt ((k, tt), h)) ds
     keyword_holds keyword.MergeE ds = merge_of ds
-    keyword_holds keyword.Hold ds = two_of expr.Hold closed.at_hold ds
-    keyword_holds keyword.CollectB ds = collect_of expr.CollectB closed.at_collect_b ds
-    keyword_holds keyword.CollectE ds = collect_of expr.CollectE closed.at_collect_e ds
-    keyword_holds keyword.Changes ds = one_of expr.Changes closed.at_changes ds
-    keyword_holds keyword.OnceE ds = one_of expr.OnceE closed.at_once_e ds
-    keyword_holds keyword.Delay ds = two_of expr.Delay closed.at_delay ds
-    keyword_holds keyword.DelayE ds = one_of expr.DelayE closed.at_delay_e ds
+    keyword_holds keyword.Hold ds = two_of expr.Hold (λ a b h k. made _ _ (outs-Hold a b) tt (h, (k, tt))) ds
+    keyword_holds keyword.CollectB ds = collect_of expr.CollectB (λ a b x y c h k l. made _ _ (outs-CollectB a b x y c) tt ((h, (k, tt)), l)) ds
+    keyword_holds keyword.CollectE ds = collect_of expr.CollectE (λ a b x y c h k l. made _ _ (outs-CollectE a b x y c) tt ((h, (k, tt)), l)) ds
+    keyword_holds keyword.Changes ds = one_of expr.Changes (λ a h. made _ _ (outs-Changes a) tt (h, tt)) ds
+    keyword_holds keyword.OnceE ds = one_of expr.OnceE (λ a h. made _ _ (outs-OnceE a) tt (h, tt)) ds
+    keyword_holds keyword.Delay ds = two_of expr.Delay (λ a b h k. made _ _ (outs-Delay a b) tt (h, (k, tt))) ds
+    keyword_holds keyword.DelayE ds = one_of expr.DelayE (λ a h. made _ _ (outs-DelayE a) tt (h, tt)) ds
     keyword_holds keyword.Feedback ds = feedback_of ds
     keyword_holds k ds = tt
 
     named_of : (k : Option Keyword) (name : List ℕ) (ds : List Datum) → Of P (named_form below k name ds)
     named_of (Some k) name ds = keyword_holds k ds
-    named_of None name ds = map_of (OfEach P) P _ (each below ds) (each_of ds) (closed.at_call name)
+    named_of None name ds = map_of (OfEach P) P _ (each below ds) (each_of ds) (λ es h. made _ _ (outs-Call name es) tt h)
 
     at_of : (v : Value) → Of P (expr_at below v)
-    at_of (value.Int n) = closed.at_literal (value.Int n)
-    at_of (value.Bool b) = closed.at_literal (value.Bool b)
-    at_of (value.Str s) = closed.at_literal (value.Str s)
-    at_of (value.Sym s) = closed.at_name s
+    at_of (value.Sym s) = made _ _ (outs-Name s) tt tt
     at_of (value.List []) = tt
     at_of (value.List (d ∷ ds)) = then_any P _ (symbol_of (value_of d)) (λ s. named_of (keyword_named s) s ds)
+    at_of _ = made _ _ (outs-Literal _) tt tt
 
   to_of : (n : ℕ) (d : Datum) → Of P (expr_to n d)
   unfolding expr_to
@@ -253,10 +224,7 @@ module _ (P : Expr → Type 0) (closed : Closed P) where
 
   define_of : (v : Value) (x : Datum × Datum) → Of (OfForm P) (define_at v x)
   define_of (value.List head) x = then_any (OfForm P) _ (symbols head) (λ ss. function_named ss x.1)
-  define_of (value.Int n) x = named_expr_of form.Define (λ s e h. h) x
-  define_of (value.Bool b) x = named_expr_of form.Define (λ s e h. h) x
-  define_of (value.Str s) x = named_expr_of form.Define (λ s e h. h) x
-  define_of (value.Sym s) x = named_expr_of form.Define (λ s e h. h) x
+  define_of _ x = named_expr_of form.Define (λ s e h. h) x
 
   with_of : (k : Option Keyword) (ds : List Datum) → Of (OfForm P) (form_with k ds)
   with_of (Some keyword.DefineInput) ds = then_any (OfForm P) _ (two_in ds) (λ x. map_any (OfForm P) _ (symbol_of (value_of x.0)) (λ s. tt))
@@ -267,11 +235,7 @@ module _ (P : Expr → Type 0) (closed : Closed P) where
 
   form_at_of : (v : Value) → Of (OfForm P) (form_at v)
   form_at_of (value.List (head ∷ ds)) = with_of (keyword_of (value_of head)) ds
-  form_at_of (value.List []) = tt
-  form_at_of (value.Int n) = tt
-  form_at_of (value.Bool b) = tt
-  form_at_of (value.Str s) = tt
-  form_at_of (value.Sym s) = tt
+  form_at_of _ = tt
 
   -- it holds of the expression of each form that has a shape
   pub form_holds : (d : Datum) → Of (OfForm P) (form_of d)

@@ -5,7 +5,7 @@ use Rattle.std.proofs.lemmas.Bool.{ltb-false}
 use Rattle.fr_value.specs.declared.value.Datum.{Datum}
 use Rattle.fr_syntax.specs.Outlines.{Global}
 use Rattle.fr_syntax.specs.Shapes.{form_of}
-use Rattle.fr_syntax.specs.declared.expr.Expr.{Expr}
+use Rattle.fr_syntax.specs.declared.expr.Expr.{Expr, out-Expr}
 use Rattle.fr_syntax.specs.declared.form.Form.{Form}
 use Rattle.fr_expand.specs.declared.refusal.Kind.{Kind}
 use Rattle.fr_expand.specs.declared.refusal.Kind.TheVariants as kind
@@ -13,8 +13,10 @@ use Rattle.fr_expand.specs.declared.refusal.Refusal.{Refusal}
 use Rattle.fr_expand.specs.Faults.{clean}
 use Rattle.fr_expand.specs.Passes.{Earlier, behind, form_expr, form_faults, form_kind, nests, refused_or}
 use Rattle.fr_expand.specs.Shaped.{and_behind, shaped, refused_in}
+use Rattle.fr_expand.specs.Shapes.{shape_of}
 use Rattle.fr_expand.proofs.Fresh.{none_or, no_fault}
-use Rattle.fr_expand.proofs.Parsed.{Of, OfForm, Closed, form_holds}
+use Rattle.fr_expand.proofs.OfParts.{OfParts, IsPaired}
+use Rattle.fr_expand.proofs.Parsed.{Of, OfForm, form_holds}
 
 -- a form has no faults and doesn't nest too deep
 pub record Passed (g : List Global) (e : Earlier) (f : Form) : Type 0 where
@@ -56,6 +58,6 @@ behind_holds P None fs h k = tt
 behind_holds P (Some f) fs h k = (h, k)
 
 -- what holds for each form of expression holds of the expressions of all forms that have a shape
-pub forms_hold : (P : Expr → Type 0) → Closed P → (ds : List Datum) → OfForms P (shaped ds)
+pub forms_hold : (P : Expr → Type 0) → ((e : Expr) → IsPaired (out-Expr e) → OfParts P (shape_of e) → P e) → (ds : List Datum) → OfForms P (shaped ds)
 forms_hold P closed [] = tt
 forms_hold P closed (d ∷ ds) = behind_holds P (form_of d) (shaped ds) (form_holds P closed d) (forms_hold P closed ds)

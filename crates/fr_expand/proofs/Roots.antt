@@ -1,10 +1,11 @@
 -- The expressions of the program that forms are which the first pass doesn't refuse.
-use Rattle.std.specs.Prelude.{ℕ, ◌≡◌, ◌+◌, ◌*◌, ◌≤◌, true, List, [], ◌∷◌, ◌++◌, map, length, Some}
+use Rattle.std.specs.Prelude.{ℕ, ◌≡◌, ◌+◌, ◌*◌, ◌≤◌, ◌&&◌, Bool, true, List, [], ◌∷◌, ◌++◌, map, length, Some}
 use Rattle.std.proofs.Common.{refl, sym, ap, ◌∙◌, arith, subst, length-append}
 use Rattle.std.proofs.lemmas.List.{length-map}
 use Rattle.fr_value.specs.Data.{greatest, total}
+use Rattle.fr_core.specs.declared.core_form.Core.{Core}
 use Rattle.fr_core.specs.declared.program.Function.{Function}
-use Rattle.fr_core.specs.WellFormed.{Root, roots, item_roots, is_scoped, are_scoped, nesting, longest, widest, count}
+use Rattle.fr_core.specs.WellFormed.{Root, roots, item_roots, are_scoped, are_formed, nesting, longest, widest, count}
 use Rattle.fr_syntax.specs.declared.expr.Expr.{Expr}
 use Rattle.fr_syntax.specs.declared.form.Form.{Form}
 use Rattle.fr_syntax.specs.declared.form.Form.TheVariants as form
@@ -17,121 +18,79 @@ use Rattle.fr_expand.specs.Faults.{clean, with, named, faults, binding_faults}
 use Rattle.fr_expand.specs.Passes.{Earlier, behind, definition_faults, show_faults, nothing_yet}
 use Rattle.fr_expand.specs.Translation.{core_of}
 use Rattle.fr_expand.proofs.Bound.{IsThere}
-use Rattle.fr_expand.proofs.Measured.{Measured}
 use Rattle.fr_expand.proofs.Passed.{AllPassed, OfForms}
-use Rattle.fr_expand.proofs.ScopedCores.{IsClear, Scoped, both_clear}
+use Rattle.fr_expand.proofs.Translated.{IsClear, Translates, both_clear}
+use Rattle.fr_expand.proofs.Within.{Within, both_true}
 
--- an expression that is no part of another is in scope, not too deep, and within these bounds
-pub record Good (functions sources longest_list most_variables : ℕ) (r : Root) : Type 0 where
-  pub scoped : is_scoped functions sources r.expr r.variables ≡ true
-  pub shallow : nesting r.expr ≤ 500
-  pub short : longest r.expr ≤ longest_list
-  pub narrow : r.variables + widest r.expr ≤ most_variables
+-- these are in scope, formed and not too deep; they have at most m expressions together, their lists at most w entries, and at most v variables are in scope in them
+pub record Rooted (functions sources m w v : ℕ) (rs : List Root) : Type 0 where
+  pub scoped : are_scoped functions sources rs ≡ true
+  pub formed : are_formed rs ≡ true
+  pub shallow : greatest (map (λ r. nesting r.expr) rs) ≤ 500
+  pub few : total (map (λ r. count r.expr) rs) ≤ m
+  pub short : greatest (map (λ r. longest r.expr) rs) ≤ w
+  pub narrow : greatest (map (λ r. r.variables + widest r.expr) rs) ≤ v
 
 abbrev bodies : List Function → List Root
 bodies fs = map (λ f. record { variables = f.params; expr = f.body }) fs
 
-module _ (g : List Global) (functions sources : ℕ) (there : (s : List Binder) (name : List ℕ) → IsThere functions sources (length s) (meaning_of g s name)) (w m : ℕ) where
-  abbrev GoodRoot : Root → Type 0
-  GoodRoot = Good functions sources w m
+clear_clean : {f : Faults} → f ≡ clean → IsClear f
+clear_clean h = (ap (λ x. x.name) h, ap (λ x. x.unbound) h)
 
-  abbrev AllGood : List Root → Type 0
-  AllGood [] = Unit {0}
-  AllGood (r ∷ rs) = GoodRoot r × AllGood rs
+module _ {functions sources w v : ℕ} where
+  no_root : {m : ℕ} → Rooted functions sources m w v []
+  no_root = record { scoped = refl; formed = refl; shallow = omega arith; few = omega arith; short = omega arith; narrow = omega arith }
 
-  good_append : (rs ss : List Root) → AllGood rs → AllGood ss → AllGood (rs ++ ss)
-  good_append [] ss h k = k
-  good_append (r ∷ rs) ss h k = (h.0, good_append rs ss h.1 k)
+  one_root : {n e m o : ℕ} {c : Core} {rs : List Root} → Within functions sources n (5 * e) e c → nesting c ≤ 500 → Rooted functions sources m w v rs → e ≤ w → n + e ≤ v → 5 * e + m ≤ o
+      → Rooted functions sources o w v (record { variables = n; expr = c } ∷ rs)
+  one_root h d k l q p = record {
+    scoped = both_true _ _ h.scoped k.scoped;
+    formed = both_true _ _ h.formed k.formed;
+    shallow = omega (arith, d, k.shallow);
+    few = omega (arith, h.few, k.few, p);
+    short = omega (arith, h.short, k.short, l);
+    narrow = omega (arith, h.narrow, k.narrow, q);
+  }
+
+  more_roots : {m o : ℕ} {rs : List Root} → Rooted functions sources m w v rs → m ≤ o → Rooted functions sources o w v rs
+  more_roots h l = record { scoped = h.scoped; formed = h.formed; shallow = h.shallow; few = omega (arith, h.few, l); short = h.short; narrow = h.narrow }
+
+module _ (g : List Global) (functions sources : ℕ) (there : (s : List Binder) (name : List ℕ) → IsThere functions sources (length s) (meaning_of g s name)) (w v : ℕ) where
+  abbrev AllTranslate : List Form → Type 0
+  AllTranslate fs = OfForms (Translates g functions sources there) fs
 
   -- an expression whose names have no fault, under these variables alone
-  good : (e : Expr) (names : List (List ℕ)) (n : ℕ) → n ≡ length names → Scoped g functions sources there e → Measured g e → IsClear (faults g e (named names))
-      → nesting (core_of g e (named names)) ≤ 500 → weight e ≤ w → n + weight e ≤ m → GoodRoot (record { variables = n; expr = core_of g e (named names) })
-  good e names n same h k clear deep small narrow =
-      let within = k (named names) in
-      let wide : length (named names) ≡ n = length-map names Some ∙ sym same in
-      record {
-        scoped = subst (λ x. is_scoped functions sources (core_of g e (named names)) x ≡ true) wide (h (named names) (named names) refl clear);
-        shallow = deep;
-        short = omega (arith, within.short, small);
-        narrow = omega (arith, within.narrow, narrow);
-      }
+  within : (e : Expr) (names : List (List ℕ)) (n : ℕ) → length names ≡ n → Translates g functions sources there e → IsClear (faults g e (named names))
+      → Within functions sources n (5 * weight e) (weight e) (core_of g e (named names))
+  within e names n same h clear =
+      subst (λ x. Within functions sources x (5 * weight e) (weight e) (core_of g e (named names))) (length-map names Some ∙ same) (h (named names) (named names) refl clear)
 
-  clear_clean : (f : Faults) → f ≡ clean → IsClear f
-  clear_clean f h = (ap (λ x. x.name) h, ap (λ x. x.unbound) h)
-
-  good_functions : (e : Earlier) (fs : List Form) → AllPassed g e fs → OfForms (Scoped g functions sources there) fs → OfForms (Measured g) fs → total (map form_weight fs) ≤ w → w ≤ m
-      → AllGood (bodies (functions_in g fs))
-  good_functions e [] p h k small more = tt
-  good_functions e (form.Function name params body ∷ fs) p h k small more =
+  -- the functions, before others
+  of_functions : (e : Earlier) (fs : List Form) (m : ℕ) (rs : List Root) → AllPassed g e fs → AllTranslate fs → total (map form_weight fs) ≤ w → w ≤ v → Rooted functions sources m w v rs
+      → Rooted functions sources (5 * total (map form_weight fs) + m) w v (bodies (functions_in g fs) ++ rs)
+  of_functions e [] m rs p h small l k = more_roots k (omega arith)
+  of_functions e (form.Function name params body ∷ fs) m rs p h small l k =
       let inside = faults g body (named params) in
-      let clear = (both_clear (binding_faults params) inside (both_clear (definition_faults e name) (with (binding_faults params) inside) (clear_clean _ p.0.faultless)).1).1 in (
-        good body params (length params) refl h.0 k.0 clear p.0.shallow (omega (arith, small)) (omega (arith, small, more)),
-        good_functions (behind e (form.Function name params body)) fs p.1 h.1 k.1 (omega (arith, small)) more,
-      )
-  good_functions e (form.Input name v ∷ fs) p h k small more = good_functions (behind e (form.Input name v)) fs p.1 h.1 k.1 (omega (arith, small)) more
-  good_functions e (form.Event name ∷ fs) p h k small more = good_functions (behind e (form.Event name)) fs p.1 h.1 k.1 (omega (arith, small)) more
-  good_functions e (form.Define name x ∷ fs) p h k small more = good_functions (behind e (form.Define name x)) fs p.1 h.1 k.1 (omega (arith, small)) more
-  good_functions e (form.Show name x ∷ fs) p h k small more = good_functions (behind e (form.Show name x)) fs p.1 h.1 k.1 (omega (arith, small)) more
+      let clear = (both_clear (binding_faults params) inside (both_clear (definition_faults e name) (with (binding_faults params) inside) (clear_clean p.0.faultless)).1).1 in
+      one_root (within body params (length params) refl h.0 clear) p.0.shallow (of_functions (behind e (form.Function name params body)) fs m rs p.1 h.1 (omega (arith, small)) l k)
+      (omega (arith, small)) (omega (arith, small, l)) (omega arith)
+  of_functions e (f ∷ fs) m rs p h small l k = more_roots (of_functions (behind e f) fs m rs p.1 h.1 (omega (arith, small)) l k) (omega arith)
 
-  good_items : (e : Earlier) (n : ℕ) (fs : List Form) → n ≡ length e.values → AllPassed g e fs → OfForms (Scoped g functions sources there) fs → OfForms (Measured g) fs
-      → total (map form_weight fs) ≤ w → n + total (map form_weight fs) ≤ m → AllGood (item_roots n (items_from g e.values fs))
-  good_items e n [] same p h k small more = tt
-  good_items e n (form.Define name x ∷ fs) same p h k small more =
-      let clear = (both_clear (definition_faults e name) (faults g x (named e.values)) (clear_clean _ p.0.faultless)).1 in
-      let longer : n + 1 ≡ length (e.values ++ name ∷ []) = ap (λ y. y + 1) same ∙ sym (length-append e.values (name ∷ [])) in (
-        good x e.values n same h.0 k.0 clear p.0.shallow (omega (arith, small)) (omega (arith, more)),
-        good_items (behind e (form.Define name x)) (n + 1) fs longer p.1 h.1 k.1 (omega (arith, small)) (omega (arith, more)),
-      )
-  good_items e n (form.Show name x ∷ fs) same p h k small more =
-      let clear = (both_clear (show_faults e name) (faults g x (named e.values)) (clear_clean _ p.0.faultless)).1 in (
-        good x e.values n same h.0 k.0 clear p.0.shallow (omega (arith, small)) (omega (arith, more)),
-        good_items (behind e (form.Show name x)) n fs same p.1 h.1 k.1 (omega (arith, small)) (omega (arith, more)),
-      )
-  good_items e n (form.Input name v ∷ fs) same p h k small more = good_items (behind e (form.Input name v)) n fs same p.1 h.1 k.1 (omega (arith, small)) (omega (arith, more))
-  good_items e n (form.Event name ∷ fs) same p h k small more = good_items (behind e (form.Event name)) n fs same p.1 h.1 k.1 (omega (arith, small)) (omega (arith, more))
-  good_items e n (form.Function name params body ∷ fs) same p h k small more =
-      good_items (behind e (form.Function name params body)) n fs same p.1 h.1 k.1 (omega (arith, small)) (omega (arith, more))
+  of_items : (e : Earlier) (n : ℕ) (fs : List Form) → length e.values ≡ n → AllPassed g e fs → AllTranslate fs → total (map form_weight fs) ≤ w → n + total (map form_weight fs) ≤ v
+      → Rooted functions sources (5 * total (map form_weight fs)) w v (item_roots n (items_from g e.values fs))
+  of_items e n [] same p h small l = no_root
+  of_items e n (form.Define name x ∷ fs) same p h small l =
+      let clear = (both_clear (definition_faults e name) (faults g x (named e.values)) (clear_clean p.0.faultless)).1 in
+      let longer : length (e.values ++ name ∷ []) ≡ n + 1 = length-append e.values (name ∷ []) ∙ ap (λ y. y + 1) same in
+      one_root (within x e.values n same h.0 clear) p.0.shallow (of_items (behind e (form.Define name x)) (n + 1) fs longer p.1 h.1 (omega (arith, small)) (omega (arith, l)))
+      (omega (arith, small)) (omega (arith, l)) (omega arith)
+  of_items e n (form.Show name x ∷ fs) same p h small l =
+      let clear = (both_clear (show_faults e name) (faults g x (named e.values)) (clear_clean p.0.faultless)).1 in
+      one_root (within x e.values n same h.0 clear) p.0.shallow (of_items (behind e (form.Show name x)) n fs same p.1 h.1 (omega (arith, small)) (omega (arith, l)))
+      (omega (arith, small)) (omega (arith, l)) (omega arith)
+  of_items e n (f ∷ fs) same p h small l = more_roots (of_items (behind e f) n fs same p.1 h.1 (omega (arith, small)) (omega (arith, l))) (omega arith)
 
-  -- all expressions of the program are good
-  pub good_roots : (fs : List Form) → AllPassed g nothing_yet fs → OfForms (Scoped g functions sources there) fs → OfForms (Measured g) fs → total (map form_weight fs) ≤ w → w ≤ m
-      → AllGood (roots (program_in g fs))
-  good_roots fs p h k small more =
-      good_append (bodies (functions_in g fs)) (item_roots 0 (items_from g [] fs)) (good_functions nothing_yet fs p h k small more)
-      (good_items nothing_yet 0 fs refl p h k small (omega (arith, small, more)))
-
-  pub all_scoped : (rs : List Root) → AllGood rs → are_scoped functions sources rs ≡ true
-  all_scoped [] h = refl
-  all_scoped (r ∷ rs) h = rw (h.0.scoped, all_scoped rs h.1) refl
-
-  pub all_shallow : (rs : List Root) → AllGood rs → greatest (map (λ r. nesting r.expr) rs) ≤ 500
-  all_shallow [] h = omega arith
-  all_shallow (r ∷ rs) h = omega (arith, h.0.shallow, all_shallow rs h.1)
-
-  pub all_short : (rs : List Root) → AllGood rs → greatest (map (λ r. longest r.expr) rs) ≤ w
-  all_short [] h = omega arith
-  all_short (r ∷ rs) h = omega (arith, h.0.short, all_short rs h.1)
-
-  pub all_narrow : (rs : List Root) → AllGood rs → greatest (map (λ r. r.variables + widest r.expr) rs) ≤ m
-  all_narrow [] h = omega arith
-  all_narrow (r ∷ rs) h = omega (arith, h.0.narrow, all_narrow rs h.1)
-
-abbrev counted : List Root → ℕ
-counted rs = total (map (λ r. count r.expr) rs)
-
-counted_append : (rs ss : List Root) → counted (rs ++ ss) ≡ counted rs + counted ss
-counted_append [] ss = omega arith
-counted_append (r ∷ rs) ss = omega (arith, counted_append rs ss)
-
--- how many expressions the functions and the items have
-few_parts : (g : List Global) (values : List (List ℕ)) (n : ℕ) (fs : List Form) → OfForms (Measured g) fs
-    → counted (bodies (functions_in g fs)) + counted (item_roots n (items_from g values fs)) ≤ 5 * total (map form_weight fs)
-few_parts g values n [] h = omega arith
-few_parts g values n (form.Function name params body ∷ fs) h = omega (arith, (h.0 (named params)).few, few_parts g values n fs h.1)
-few_parts g values n (form.Define name x ∷ fs) h = omega (arith, (h.0 (named values)).few, few_parts g (values ++ name ∷ []) (n + 1) fs h.1)
-few_parts g values n (form.Show name x ∷ fs) h = omega (arith, (h.0 (named values)).few, few_parts g values n fs h.1)
-few_parts g values n (form.Input name v ∷ fs) h = omega (arith, few_parts g values n fs h.1)
-few_parts g values n (form.Event name ∷ fs) h = omega (arith, few_parts g values n fs h.1)
-
--- the program has at most five expressions for what one weighs
-pub few_expressions : (g : List Global) (fs : List Form) → OfForms (Measured g) fs → total (map (λ r. count r.expr) (roots (program_in g fs))) ≤ 5 * total (map form_weight fs)
-few_expressions g fs h = omega (arith, counted_append (bodies (functions_in g fs)) (item_roots 0 (items_from g [] fs)), few_parts g [] 0 fs h)
+  -- so are the functions and the items of the program
+  pub rooted : (fs : List Form) → AllPassed g nothing_yet fs → AllTranslate fs → total (map form_weight fs) ≤ w → w ≤ v
+      → Rooted functions sources (10 * total (map form_weight fs)) w v (roots (program_in g fs))
+  rooted fs p h small l = more_roots (of_functions nothing_yet fs _ _ p h small l (of_items nothing_yet 0 fs refl p h small (omega (arith, small, l)))) (omega arith)

@@ -3,6 +3,7 @@ use Rattle.std.specs.Prelude.{ℕ, ◌+◌, List, [], ◌∷◌, length, take, m
 use Rattle.fr_value.specs.Data.{greatest}
 use Rattle.fr_syntax.specs.declared.expr.Expr.{Expr, fold-Expr}
 use Rattle.fr_syntax.specs.declared.expr.Expr.TheOpen.{Expr-F}
+use Rattle.fr_expand.specs.Shapes.{Shape, literal, reference, call, choice, chain, clauses, all_of, any_of, operation, binder, feedback, shape}
 
 -- each stands in an expression around what is behind it
 abbrev pub around : List ℕ → ℕ → ℕ
@@ -29,30 +30,23 @@ or_depth [] = 1
 or_depth (d ∷ []) = d
 or_depth (d ∷ ds) = 1 + max d (1 + or_depth ds)
 
+-- the depth of a shape from those of its parts
+abbrev pub depth_by : Shape ℕ → ℕ
+depth_by (literal v) = 1
+depth_by (reference x) = 1
+depth_by (call f es) = 1 + greatest es
+depth_by (choice a b c) = 1 + max a (max b c)
+depth_by (chain xs es b) = chain_depth xs es b
+depth_by (clauses ts es e) = cond_depth ts es e
+depth_by (all_of es) = and_depth es
+depth_by (any_of es) = or_depth es
+depth_by (operation o es) = 1 + greatest es
+depth_by (binder k es xs b) = 1 + max (greatest es) b
+depth_by (feedback x a b) = 1 + max a b
+
 -- the depth from those of the parts
 abbrev pub depth_step : Expr-F ℕ → ℕ
-depth_step (Expr-F.Literal v) = 1
-depth_step (Expr-F.Name name) = 1
-depth_step (Expr-F.If a b c) = 1 + max a (max b c)
-depth_step (Expr-F.Let xs es b) = 1 + max (greatest es) b
-depth_step (Expr-F.LetStar xs es b) = chain_depth xs es b
-depth_step (Expr-F.Cond ts es e) = cond_depth ts es e
-depth_step (Expr-F.And es) = and_depth es
-depth_step (Expr-F.Or es) = or_depth es
-depth_step (Expr-F.Fold a x i l b) = 1 + max i (max l b)
-depth_step (Expr-F.Repeat a i n b) = 1 + max i (max n b)
-depth_step (Expr-F.MapE v b e) = 1 + max e b
-depth_step (Expr-F.FilterE v b e) = 1 + max e b
-depth_step (Expr-F.MergeE es) = 1 + greatest es
-depth_step (Expr-F.Hold a b) = 1 + max a b
-depth_step (Expr-F.CollectB e i v a b) = 1 + max e (max i b)
-depth_step (Expr-F.CollectE e i v a b) = 1 + max e (max i b)
-depth_step (Expr-F.Changes a) = 1 + a
-depth_step (Expr-F.OnceE a) = 1 + a
-depth_step (Expr-F.Delay a b) = 1 + max a b
-depth_step (Expr-F.DelayE a) = 1 + a
-depth_step (Expr-F.Feedback x i b) = 1 + max i b
-depth_step (Expr-F.Call f es) = 1 + greatest es
+depth_step f = depth_by (shape f)
 
 -- how deep the core expression nests, where a leaf counts 1 and a compound one more than its deepest part
 unfoldable pub depth : Expr → ℕ

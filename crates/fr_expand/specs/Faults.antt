@@ -9,6 +9,7 @@ use Rattle.fr_scope.specs.declared.meaning.Meaning.{Meaning}
 use Rattle.fr_scope.specs.declared.meaning.Meaning.TheVariants as meaning
 use Rattle.fr_scope.specs.Meanings.{Binder, meaning_of}
 use Rattle.fr_expand.specs.declared.faults.Faults.{Faults}
+use Rattle.fr_expand.specs.Shapes.{Shape, literal, reference, call, choice, chain, clauses, all_of, any_of, operation, binder, feedback, shape}
 
 -- no fault
 abbrev pub clean : Faults
@@ -90,30 +91,23 @@ abbrev pub chained_faults : List (List ℕ) → List Part → Part → Part
 chained_faults (x ∷ xs) (f ∷ fs) body scope = with (f scope) (chained_faults xs fs body (scope ++ Some x ∷ []))
 chained_faults xs fs body scope = body scope
 
+-- the faults of a shape from those of its parts
+abbrev pub faults_by : List Global → Shape Part → Part
+faults_by globals (literal v) scope = clean
+faults_by globals (reference x) scope = unless_keyword (is_keyword x) (value_fault (meaning_of globals scope x))
+faults_by globals (call f es) scope = with (callee_fault (meaning_of globals scope f)) (all_faults es scope)
+faults_by globals (choice a b c) scope = with (a scope) (all_faults (b ∷ c ∷ []) scope)
+faults_by globals (chain xs es b) scope = with (chain_faults xs) (chained_faults xs es b scope)
+faults_by globals (clauses ts es e) scope = with (all_faults ts scope) (with (all_faults es scope) (e scope))
+faults_by globals (all_of es) scope = all_faults es scope
+faults_by globals (any_of es) scope = all_faults es scope
+faults_by globals (operation o es) scope = all_faults es scope
+faults_by globals (binder k es xs b) scope = with (binding_faults xs) (with (all_faults es scope) (b (scope ++ named xs)))
+faults_by globals (feedback x a b) scope = with (binding_faults (x ∷ [])) (with (all_faults (a ∷ []) scope) (b (scope ++ named (x ∷ []))))
+
 -- the faults of an expression from those of its parts
 abbrev pub faults_step : List Global → Expr-F Part → Part
-faults_step globals (Expr-F.Literal v) scope = clean
-faults_step globals (Expr-F.Name name) scope = unless_keyword (is_keyword name) (value_fault (meaning_of globals scope name))
-faults_step globals (Expr-F.If a b c) scope = with (a scope) (with (b scope) (c scope))
-faults_step globals (Expr-F.Let xs es b) scope = with (binding_faults xs) (with (all_faults es scope) (b (scope ++ named xs)))
-faults_step globals (Expr-F.LetStar xs es b) scope = with (chain_faults xs) (chained_faults xs es b scope)
-faults_step globals (Expr-F.Cond ts es e) scope = with (all_faults ts scope) (with (all_faults es scope) (e scope))
-faults_step globals (Expr-F.And es) scope = all_faults es scope
-faults_step globals (Expr-F.Or es) scope = all_faults es scope
-faults_step globals (Expr-F.Fold a x i l b) scope = with (binding_faults (a ∷ x ∷ [])) (with (i scope) (with (l scope) (b (scope ++ named (a ∷ x ∷ [])))))
-faults_step globals (Expr-F.Repeat a i n b) scope = with (binding_faults (a ∷ [])) (with (i scope) (with (n scope) (b (scope ++ named (a ∷ [])))))
-faults_step globals (Expr-F.MapE v b e) scope = with (binding_faults (v ∷ [])) (with (e scope) (b (scope ++ named (v ∷ []))))
-faults_step globals (Expr-F.FilterE v b e) scope = with (binding_faults (v ∷ [])) (with (e scope) (b (scope ++ named (v ∷ []))))
-faults_step globals (Expr-F.MergeE es) scope = all_faults es scope
-faults_step globals (Expr-F.Hold a b) scope = with (a scope) (b scope)
-faults_step globals (Expr-F.CollectB e i v a b) scope = with (binding_faults (v ∷ a ∷ [])) (with (e scope) (with (i scope) (b (scope ++ named (v ∷ a ∷ [])))))
-faults_step globals (Expr-F.CollectE e i v a b) scope = with (binding_faults (v ∷ a ∷ [])) (with (e scope) (with (i scope) (b (scope ++ named (v ∷ a ∷ [])))))
-faults_step globals (Expr-F.Changes a) scope = a scope
-faults_step globals (Expr-F.OnceE a) scope = a scope
-faults_step globals (Expr-F.Delay a b) scope = with (a scope) (b scope)
-faults_step globals (Expr-F.DelayE a) scope = a scope
-faults_step globals (Expr-F.Feedback x i b) scope = with (binding_faults (x ∷ [])) (with (i scope) (b (scope ++ named (x ∷ []))))
-faults_step globals (Expr-F.Call f es) scope = with (callee_fault (meaning_of globals scope f)) (all_faults es scope)
+faults_step globals f = faults_by globals (shape f)
 
 -- the faults of an expression, where these names are global and these variables are in scope
 unfoldable pub faults : List Global → Expr → Part

@@ -7,10 +7,14 @@ use Rattle.fr_syntax.specs.declared.expr.Expr.{Expr, fold-Expr}
 use Rattle.fr_syntax.specs.declared.expr.Expr.TheOpen.{Expr-F}
 use Rattle.fr_core.specs.declared.core_form.Core.{Core}
 use Rattle.fr_core.specs.declared.core_form.Core.TheVariants as core
+use Rattle.fr_core.specs.declared.core_form.Operator.TheVariants as operator
 use Rattle.fr_scope.specs.declared.meaning.Meaning.{Meaning}
 use Rattle.fr_scope.specs.declared.meaning.Meaning.TheVariants as meaning
 use Rattle.fr_scope.specs.Meanings.{Binder, meaning_of}
+use Rattle.fr_expand.specs.declared.view.Binding.{Binding}
+use Rattle.fr_expand.specs.declared.view.Binding.TheVariants as binding
 use Rattle.fr_expand.specs.Faults.{named}
+use Rattle.fr_expand.specs.Shapes.{Shape, literal, reference, call, choice, chain, clauses, all_of, any_of, operation, binder, feedback, shape}
 
 -- the literal of a truth value
 abbrev pub truth : Bool → Core
@@ -25,8 +29,14 @@ value_core m = truth false
 -- the core expression of a call; of a name that can't be called it is the list of its arguments
 abbrev pub call_core : Option Meaning → List Core → Core
 call_core (Some (meaning.Function f)) es = core.Apply f es
-call_core (Some (meaning.Primitive p)) es = core.PrimApp p es
-call_core m es = core.PrimApp primitive.List es
+call_core (Some (meaning.Primitive p)) es = core.Operator (operator.Prim p) es
+call_core m es = core.Operator (operator.Prim primitive.List) es
+
+-- the core expression of a form with a body
+abbrev pub binding_core : Binding → List Core → Core → Core
+binding_core binding.Let es b = core.Let es b
+binding_core (binding.Handler h) es b = core.Handler h es b
+binding_core (binding.Loop l) es b = core.Loop l es b
 
 -- the core expression of a part, where these variables are in scope
 abbrev pub Part : Type 0
@@ -58,30 +68,23 @@ or_core [] scope = truth false
 or_core (e ∷ []) scope = e scope
 or_core (e ∷ es) scope = core.Let (e scope ∷ []) (core.If (core.Var (record { 0 = length scope })) (core.Var (record { 0 = length scope })) (or_core es (scope ++ None ∷ [])))
 
+-- the core expression of a shape from those of its parts
+abbrev pub core_by : List Global → Shape Part → Part
+core_by globals (literal v) scope = core.Lit v
+core_by globals (reference x) scope = value_core (meaning_of globals scope x)
+core_by globals (call f es) scope = call_core (meaning_of globals scope f) (each_core es scope)
+core_by globals (choice a b c) scope = core.If (a scope) (b scope) (c scope)
+core_by globals (chain xs es b) scope = chained_core xs es b scope
+core_by globals (clauses ts es e) scope = cond_core (each_core ts scope) (each_core es scope) (e scope)
+core_by globals (all_of es) scope = and_core (each_core es scope)
+core_by globals (any_of es) scope = or_core es scope
+core_by globals (operation o es) scope = core.Operator o (each_core es scope)
+core_by globals (binder k es xs b) scope = binding_core k (each_core es scope) (b (scope ++ named xs))
+core_by globals (feedback x a b) scope = core.Feedback (a scope) (b (scope ++ named (x ∷ [])))
+
 -- the core expression from those of the parts
 abbrev pub core_step : List Global → Expr-F Part → Part
-core_step globals (Expr-F.Literal v) scope = core.Lit v
-core_step globals (Expr-F.Name name) scope = value_core (meaning_of globals scope name)
-core_step globals (Expr-F.If a b c) scope = core.If (a scope) (b scope) (c scope)
-core_step globals (Expr-F.Let xs es b) scope = core.Let (each_core es scope) (b (scope ++ named xs))
-core_step globals (Expr-F.LetStar xs es b) scope = chained_core xs es b scope
-core_step globals (Expr-F.Cond ts es e) scope = cond_core (each_core ts scope) (each_core es scope) (e scope)
-core_step globals (Expr-F.And es) scope = and_core (each_core es scope)
-core_step globals (Expr-F.Or es) scope = or_core es scope
-core_step globals (Expr-F.Fold a x i l b) scope = core.Fold (i scope) (l scope) (b (scope ++ named (a ∷ x ∷ [])))
-core_step globals (Expr-F.Repeat a i n b) scope = core.Repeat (i scope) (n scope) (b (scope ++ named (a ∷ [])))
-core_step globals (Expr-F.MapE v b e) scope = core.MapE (e scope) (b (scope ++ named (v ∷ [])))
-core_step globals (Expr-F.FilterE v b e) scope = core.FilterE (e scope) (b (scope ++ named (v ∷ [])))
-core_step globals (Expr-F.MergeE es) scope = core.MergeE (each_core es scope)
-core_step globals (Expr-F.Hold a b) scope = core.Hold (a scope) (b scope)
-core_step globals (Expr-F.CollectB e i v a b) scope = core.CollectB (e scope) (i scope) (b (scope ++ named (v ∷ a ∷ [])))
-core_step globals (Expr-F.CollectE e i v a b) scope = core.CollectE (e scope) (i scope) (b (scope ++ named (v ∷ a ∷ [])))
-core_step globals (Expr-F.Changes a) scope = core.Changes (a scope)
-core_step globals (Expr-F.OnceE a) scope = core.OnceE (a scope)
-core_step globals (Expr-F.Delay a b) scope = core.Delay (a scope) (b scope)
-core_step globals (Expr-F.DelayE a) scope = core.DelayE (a scope)
-core_step globals (Expr-F.Feedback x i b) scope = core.Feedback (i scope) (b (scope ++ named (x ∷ [])))
-core_step globals (Expr-F.Call f es) scope = call_core (meaning_of globals scope f) (each_core es scope)
+core_step globals f = core_by globals (shape f)
 
 -- the core expression that an expression stands for, where these names are global and these variables are in scope
 unfoldable pub core_of : List Global → Expr → Part

@@ -1,8 +1,10 @@
-ghost use Rattle.std.specs.Prelude.{◌≡◌, ◌≤◌, ◌+◌, ◌++◌, [], ◌∷◌, length, IfOk, OnOk};
+ghost use Rattle.std.specs.Prelude.{◌≡◌, ◌≤◌, ◌+◌, ◌++◌, false, length, IfOk, OnOk};
 ghost use Rattle.std.specs.Str.{bytes_eq};
 ghost use Rattle.fr_expand.specs.Faults.{is_keyword, any_keyword, any_twice, binding_faults, chain_faults, named};
+ghost use Rattle.fr_expand.specs.Shapes.{names_of};
 
 use crate::faults::Faults;
+use crate::view::Names;
 use fr_scope::Scope;
 use fr_syntax::keyword_named;
 use fr_value::Symbol;
@@ -42,47 +44,38 @@ fn any_twice(alloc: Global, names: &[Symbol]) -> Result<bool, AllocError>
 }
 
 /// What is wrong with names that are bound together.
-pub(crate) fn binding_faults(alloc: Global, names: &[Symbol]) -> Result<Faults, AllocError>
-    ensures { IfOk result (λ f. f ≡ binding_faults names.now) }
+pub(crate) fn binding_faults(
+    alloc: Global,
+    names: Names<'_>,
+) -> Result<Faults, AllocError>
+    ensures { IfOk result (λ f. f ≡ binding_faults (names_of names.entry)) }
 {
-    Ok(Faults {
-        name: any_keyword(names),
+    match names {
+        Names::One(name) => Ok(bound(is_keyword(name), false)),
+        Names::Two(first, second) => Ok(bound(
+            is_keyword(first) || is_keyword(second),
+            is_same(second, first),
+        )),
+        Names::Each(names) => Ok(bound(any_keyword(names), any_twice(alloc, names)?)),
+    }
+}
+
+/// What is wrong with names that are bound, by whether one is a keyword and one stands twice.
+fn bound(name: bool, twice: bool) -> Faults
+    ensures { result ≡ record { name = name; unbound = false; twice = twice } }
+{
+    Faults {
+        name,
         unbound: false,
-        twice: any_twice(alloc, names)?,
-    })
+        twice,
+    }
 }
 
 /// What is wrong with names that are bound one after the other.
 pub(crate) fn chain_faults(names: &[Symbol]) -> Faults
     ensures { result ≡ chain_faults names.now }
 {
-    Faults {
-        name: any_keyword(names),
-        unbound: false,
-        twice: false,
-    }
-}
-
-/// What is wrong with a name that is bound alone.
-pub(crate) fn binding_faults_of_one(name: &Symbol) -> Faults
-    ensures { result ≡ binding_faults (name.now ∷ []) }
-{
-    Faults {
-        name: is_keyword(name),
-        unbound: false,
-        twice: false,
-    }
-}
-
-/// What is wrong with two names that are bound together.
-pub(crate) fn binding_faults_of_two(first: &Symbol, second: &Symbol) -> Faults
-    ensures { result ≡ binding_faults (first.now ∷ second.now ∷ []) }
-{
-    Faults {
-        name: is_keyword(first) || is_keyword(second),
-        unbound: false,
-        twice: is_same(second, first),
-    }
+    bound(any_keyword(names), false)
 }
 
 fn is_same(a: &Symbol, b: &Symbol) -> bool
@@ -92,6 +85,21 @@ fn is_same(a: &Symbol, b: &Symbol) -> bool
 }
 
 /// One more variable for each of these names, the last one innermost.
+pub(crate) fn bind(scope: &mut Scope, names: Names<'_>) -> Result<(), AllocError>
+    requires { length scope.old + length (names_of names) ≤ 4294967295 }
+    ensures { OnOk result (scope.new ≡ scope.old ++ named (names_of names.entry)) }
+{
+    match names {
+        Names::One(name) => scope.push(name),
+        Names::Two(first, second) => {
+            scope.push(first)?;
+            scope.push(second)
+        }
+        Names::Each(names) => bind_all(scope, names),
+    }
+}
+
+/// The same for a list of names.
 pub(crate) fn bind_all(scope: &mut Scope, names: &[Symbol]) -> Result<(), AllocError>
     requires { length scope.old + length names.now ≤ 4294967295 }
     ensures { OnOk result (scope.new ≡ scope.old ++ named names.now) }

@@ -9,7 +9,7 @@ ghost use Rattle.fr_expand.specs.Translation.{core_of};
 
 use crate::bindings::bind_all;
 use crate::translation::core_in;
-use fr_core::{Event, Function, Input, Item, Program};
+use fr_core::{Core, Event, Function, Input, Item, Program};
 use fr_scope::{Globals, Scope};
 use fr_syntax::{Expr, Form};
 use fr_value::{SrcId, Symbol};
@@ -100,14 +100,28 @@ fn function_of(
     requires { length params.now + weight body.now ≤ 4294967295 }
     ensures { IfOk result (λ f. f ≡ record { name = name.now; params = length params.now; body = core_of globals.now body.now (named params.now) }) }
 {
-    let mut scope = Scope::new(alloc);
-    bind_all(&mut scope, params)?;
-    let body = core_in(alloc, globals, &mut scope, body)?;
+    let name = name.share()?;
+    let body = body_of(alloc, globals, params, body)?;
     Ok(Function {
-        name: name.share()?,
+        name,
         params: params.len() as u32,
         body,
     })
+}
+
+/// The core expression of a function's body.
+fn body_of(
+    alloc: Global,
+    globals: &Globals,
+    params: &[Symbol],
+    body: &Expr,
+) -> Result<Core, AllocError>
+    requires { length params.now + weight body.now ≤ 4294967295 }
+    ensures { IfOk result (λ c. c ≡ core_of globals.now body.now (named params.now)) }
+{
+    let mut scope = Scope::new(alloc);
+    bind_all(&mut scope, params)?;
+    core_in(alloc, globals, &mut scope, body)
 }
 
 /// The items of the body. Each sees the values before it.
@@ -141,8 +155,11 @@ fn item_of(
     match form {
         Form::Define(_, expr) => Ok(Some(Item::Define(core_in(alloc, globals, values, expr)?))),
         Form::Show(name, expr) => {
-            let core = core_in(alloc, globals, values, expr)?;
-            Ok(Some(Item::Show(name.share()?, core)))
+            let name = name.share()?;
+            Ok(Some(Item::Show(
+                name,
+                core_in(alloc, globals, values, expr)?,
+            )))
         }
         Form::Input(..) | Form::Event(_) | Form::Function(..) => Ok(None),
     }

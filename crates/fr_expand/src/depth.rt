@@ -30,6 +30,7 @@ fn above(parts: u32) -> u32
 
 /// The depth of an expression.
 #[cycle(depth)]
+#[tactic(auto, using(crate::proofs::Views::depth_opens, crate::proofs::Opened::opened, crate::proofs::Chains::capped))]
 fn depth_of(expr: &Expr) -> u32
     ensures { result ≡ min 501 (depth expr.now) }
 {

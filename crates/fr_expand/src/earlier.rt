@@ -7,6 +7,7 @@ ghost use Rattle.fr_expand.specs.Shaped.{earlier_of, is_taken, AreNamed};
 use crate::bindings::{bind_all, binding_faults};
 use crate::faults::{Faults, faults_in};
 use crate::name_set::NameSet;
+use crate::view::Names;
 use fr_prims::prim_named;
 use fr_scope::{Globals, Scope};
 use fr_syntax::{Expr, Form, keyword_named};
@@ -75,7 +76,7 @@ impl<'a> EarlierNames<'a> {
         match form {
             Form::Input(name, _) | Form::Event(name) => Ok(self.definition_faults(name)),
             Form::Function(name, params, body) => {
-                let bound = binding_faults(alloc, params.as_slice())?;
+                let bound = binding_faults(alloc, Names::Each(params.as_slice()))?;
                 let inside = body_faults(alloc, globals, params.as_slice(), body)?;
                 Ok(self.definition_faults(name).with(bound.with(inside)))
             }

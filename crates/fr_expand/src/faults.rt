@@ -3,11 +3,10 @@ ghost use Rattle.fr_syntax.specs.Weights.{weight};
 ghost use Rattle.fr_scope.specs.Meanings.{meaning_of};
 ghost use Rattle.fr_value.specs.Data.{total};
 ghost use Rattle.fr_expand.specs.Faults.{clean, with, value_fault, callee_fault, unless_keyword, is_keyword, binding_faults, chain_faults, named, all_faults, chained_faults, faults};
+ghost use Rattle.fr_expand.specs.Shapes.{exprs_of, names_of};
 
-use crate::bindings::{
-    bind_all, binding_faults, binding_faults_of_one, binding_faults_of_two, chain_faults,
-    is_keyword,
-};
+use crate::bindings::{bind, binding_faults, chain_faults, is_keyword};
+use crate::view::{Names, Parts, View, view_of};
 use fr_scope::{Globals, Meaning, Scope};
 use fr_syntax::Expr;
 use fr_value::Symbol;
@@ -109,6 +108,7 @@ fn name_faults(globals: &Globals, scope: &Scope, name: &Symbol) -> Faults
 ///
 /// It takes time in the expression's size, but for the sorting of names that are bound together.
 #[cycle(faults)]
+#[tactic(auto, using(crate::proofs::Views::faults_opens, crate::proofs::Views::weight_opens))]
 pub(crate) fn faults_in(
     alloc: Global,
     globals: &Globals,
@@ -119,96 +119,59 @@ pub(crate) fn faults_in(
     ensures found { IfOk result (λ f. f ≡ faults globals.now expr.now scope.old) }
     ensures scope { OnOk result (scope.new ≡ scope.old) }
 {
-    match expr {
-        Expr::Literal(_) => Ok(Faults::clean()),
-        Expr::Name(name) => Ok(name_faults(globals, scope, name)),
-        Expr::If(a, b, c) => faults_in_three(alloc, globals, scope, a.get(), b.get(), c.get()),
-        Expr::Let(names, parts, body) => faults_in_let(
-            alloc,
-            globals,
-            scope,
-            names.as_slice(),
-            parts.as_slice(),
-            body.get(),
-        ),
-        Expr::LetStar(names, parts, body) => faults_in_chain(
-            alloc,
-            globals,
-            scope,
-            names.as_slice(),
-            parts.as_slice(),
-            body.get(),
-        ),
-        Expr::Cond(tests, parts, other) => faults_in_cond(
-            alloc,
-            globals,
-            scope,
-            tests.as_slice(),
-            parts.as_slice(),
-            other.get(),
-        ),
-        Expr::And(parts) | Expr::Or(parts) | Expr::MergeE(parts) => {
-            faults_in_each(alloc, globals, scope, parts.as_slice())
+    match view_of(expr) {
+        View::Literal(_) => Ok(Faults::clean()),
+        View::Name(name) => Ok(name_faults(globals, scope, name)),
+        View::Call(callee, parts) => {
+            let called = callee_fault(globals.meaning(scope, callee));
+            Ok(called.with(faults_in_each(alloc, globals, scope, parts)?))
         }
-        Expr::Call(callee, parts) => {
-            faults_in_call(alloc, globals, scope, callee, parts.as_slice())
+        View::If(test, then, other) => {
+            let found = faults_in(alloc, globals, scope, test)?;
+            let rest = faults_in_group(alloc, globals, scope, Parts::Two(then, other))?;
+            Ok(found.with(rest))
         }
-        Expr::Fold(x, y, a, b, body)
-        | Expr::CollectB(a, b, x, y, body)
-        | Expr::CollectE(a, b, x, y, body) => {
-            let parts = faults_in_two(alloc, globals, scope, a.get(), b.get())?;
-            Ok(parts.with(faults_under_two(alloc, globals, scope, x, y, body.get())?))
+        View::Chain(names, parts, body) => {
+            faults_in_chain(alloc, globals, scope, names, parts, body)
         }
-        Expr::Repeat(x, a, b, body) => {
-            let parts = faults_in_two(alloc, globals, scope, a.get(), b.get())?;
-            Ok(parts.with(faults_under_one(alloc, globals, scope, x, body.get())?))
+        View::Cond(tests, parts, other) => {
+            let tested = faults_in_each(alloc, globals, scope, tests)?;
+            let chosen = faults_in_each(alloc, globals, scope, parts)?;
+            let last = faults_in(alloc, globals, scope, other)?;
+            Ok(tested.with(chosen.with(last)))
         }
-        Expr::MapE(x, body, a) | Expr::FilterE(x, body, a) | Expr::Feedback(x, a, body) => {
-            let part = faults_in(alloc, globals, scope, a.get())?;
-            Ok(part.with(faults_under_one(alloc, globals, scope, x, body.get())?))
+        View::And(parts) | View::Or(parts) => faults_in_each(alloc, globals, scope, parts),
+        View::Operator(_, parts) => faults_in_group(alloc, globals, scope, parts),
+        View::Binding(_, parts, names, body) => {
+            faults_in_binding(alloc, globals, scope, names, parts, body)
         }
-        Expr::Hold(a, b) | Expr::Delay(a, b) => {
-            faults_in_two(alloc, globals, scope, a.get(), b.get())
-        }
-        Expr::Changes(a) | Expr::OnceE(a) | Expr::DelayE(a) => {
-            faults_in(alloc, globals, scope, a.get())
+        View::Feedback(name, first, body) => {
+            let (names, parts) = (Names::One(name), Parts::One(first));
+            faults_in_binding(alloc, globals, scope, names, parts, body)
         }
     }
 }
 
-/// What is wrong in either.
+/// What is wrong in any.
 #[cycle(faults)]
-fn faults_in_two(
+fn faults_in_group(
     alloc: Global,
     globals: &Globals,
     scope: &mut Scope,
-    a: &Expr,
-    b: &Expr,
+    parts: Parts<'_>,
 ) -> Result<Faults, AllocError>
-    requires { length scope.old + weight a.now + weight b.now ≤ 4294967295 }
-    ensures found { IfOk result (λ f. f ≡ with (faults globals.now a.now scope.old) (faults globals.now b.now scope.old)) }
+    requires { length scope.old + total (map weight (exprs_of parts)) ≤ 4294967295 }
+    ensures found { IfOk result (λ f. f ≡ all_faults (map (faults globals.now) (exprs_of parts.entry)) scope.old) }
     ensures scope { OnOk result (scope.new ≡ scope.old) }
 {
-    let first = faults_in(alloc, globals, scope, a)?;
-    Ok(first.with(faults_in(alloc, globals, scope, b)?))
-}
-
-/// What is wrong in any of three.
-#[cycle(faults)]
-fn faults_in_three(
-    alloc: Global,
-    globals: &Globals,
-    scope: &mut Scope,
-    a: &Expr,
-    b: &Expr,
-    c: &Expr,
-) -> Result<Faults, AllocError>
-    requires { length scope.old + weight a.now + weight b.now + weight c.now ≤ 4294967295 }
-    ensures found { IfOk result (λ f. f ≡ with (faults globals.now a.now scope.old) (with (faults globals.now b.now scope.old) (faults globals.now c.now scope.old))) }
-    ensures scope { OnOk result (scope.new ≡ scope.old) }
-{
-    let first = faults_in(alloc, globals, scope, a)?;
-    Ok(first.with(faults_in_two(alloc, globals, scope, b, c)?))
+    match parts {
+        Parts::One(part) => faults_in(alloc, globals, scope, part),
+        Parts::Two(first, second) => {
+            let found = faults_in(alloc, globals, scope, first)?;
+            Ok(found.with(faults_in(alloc, globals, scope, second)?))
+        }
+        Parts::Each(parts) => faults_in_each(alloc, globals, scope, parts),
+    }
 }
 
 /// What is wrong in any.
@@ -230,62 +193,28 @@ fn faults_in_each(
     Ok(found)
 }
 
-/// What is wrong in a call: in the name that is called, or in an argument.
+/// What is wrong in what binds names together: in the names, in the parts, which don't see them, and in the body.
 #[cycle(faults)]
-fn faults_in_call(
+fn faults_in_binding(
     alloc: Global,
     globals: &Globals,
     scope: &mut Scope,
-    callee: &Symbol,
-    parts: &[Expr],
-) -> Result<Faults, AllocError>
-    requires { length scope.old + total (map weight parts.now) ≤ 4294967295 }
-    ensures found { IfOk result (λ f. f ≡ with (callee_fault (meaning_of globals.now scope.old callee.now)) (all_faults (map (faults globals.now) parts.now) scope.old)) }
-    ensures scope { OnOk result (scope.new ≡ scope.old) }
-{
-    let called = callee_fault(globals.meaning(scope, callee));
-    Ok(called.with(faults_in_each(alloc, globals, scope, parts)?))
-}
-
-/// What is wrong in a `let`.
-#[cycle(faults)]
-fn faults_in_let(
-    alloc: Global,
-    globals: &Globals,
-    scope: &mut Scope,
-    names: &[Symbol],
-    parts: &[Expr],
+    names: Names<'_>,
+    parts: Parts<'_>,
     body: &Expr,
 ) -> Result<Faults, AllocError>
-    requires { length scope.old + length names.now + total (map weight parts.now) + weight body.now ≤ 4294967295 }
-    ensures found { IfOk result (λ f. f ≡ with (binding_faults names.now) (with (all_faults (map (faults globals.now) parts.now) scope.old)
-        (faults globals.now body.now (scope.old ++ named names.now)))) }
+    requires { length scope.old + length (names_of names) + total (map weight (exprs_of parts)) + weight body.now ≤ 4294967295 }
+    ensures found { let bound = names_of names.entry in
+        IfOk result (λ f. f ≡ with (binding_faults bound) (with (all_faults (map (faults globals.now) (exprs_of parts.entry)) scope.old) (faults globals.now body.now (scope.old ++ named bound)))) }
     ensures scope { OnOk result (scope.new ≡ scope.old) }
 {
     let bound = binding_faults(alloc, names)?;
-    let found = faults_in_each(alloc, globals, scope, parts)?;
-    let below = faults_under_all(alloc, globals, scope, names, body)?;
-    Ok(bound.with(found.with(below)))
-}
-
-/// What is wrong in a body that sees these names.
-#[cycle(faults)]
-fn faults_under_all(
-    alloc: Global,
-    globals: &Globals,
-    scope: &mut Scope,
-    names: &[Symbol],
-    body: &Expr,
-) -> Result<Faults, AllocError>
-    requires { length scope.old + length names.now + weight body.now ≤ 4294967295 }
-    ensures found { IfOk result (λ f. f ≡ faults globals.now body.now (scope.old ++ named names.now)) }
-    ensures scope { OnOk result (scope.new ≡ scope.old) }
-{
+    let found = faults_in_group(alloc, globals, scope, parts)?;
     let outer = scope.len();
-    bind_all(scope, names)?;
-    let found = faults_in(alloc, globals, scope, body)?;
+    bind(scope, names)?;
+    let below = faults_in(alloc, globals, scope, body)?;
     scope.cut(outer);
-    Ok(found)
+    Ok(bound.with(found.with(below)))
 }
 
 /// What is wrong in a `let*`: a part sees the names before it, and the body all.
@@ -311,69 +240,4 @@ fn faults_in_chain(
     found = found.with(faults_in(alloc, globals, scope, body)?);
     scope.cut(outer);
     Ok(found)
-}
-
-/// What is wrong in a `cond`.
-#[cycle(faults)]
-fn faults_in_cond(
-    alloc: Global,
-    globals: &Globals,
-    scope: &mut Scope,
-    tests: &[Expr],
-    parts: &[Expr],
-    other: &Expr,
-) -> Result<Faults, AllocError>
-    requires { length scope.old + total (map weight tests.now) + total (map weight parts.now) + weight other.now ≤ 4294967295 }
-    ensures found { IfOk result (λ f. f ≡ with (all_faults (map (faults globals.now) tests.now) scope.old) (with (all_faults (map (faults globals.now) parts.now) scope.old)
-        (faults globals.now other.now scope.old))) }
-    ensures scope { OnOk result (scope.new ≡ scope.old) }
-{
-    let tested = faults_in_each(alloc, globals, scope, tests)?;
-    let chosen = faults_in_each(alloc, globals, scope, parts)?;
-    let last = faults_in(alloc, globals, scope, other)?;
-    Ok(tested.with(chosen.with(last)))
-}
-
-/// What is wrong with a name, and in a body that sees it.
-#[cycle(faults)]
-fn faults_under_one(
-    alloc: Global,
-    globals: &Globals,
-    scope: &mut Scope,
-    name: &Symbol,
-    body: &Expr,
-) -> Result<Faults, AllocError>
-    requires { length scope.old + 1 + weight body.now ≤ 4294967295 }
-    ensures found { let names = name.now ∷ [] in
-        IfOk result (λ f. f ≡ with (binding_faults names) (faults globals.now body.now (scope.old ++ named names))) }
-    ensures scope { OnOk result (scope.new ≡ scope.old) }
-{
-    let outer = scope.len();
-    scope.push(name)?;
-    let found = faults_in(alloc, globals, scope, body)?;
-    scope.cut(outer);
-    Ok(binding_faults_of_one(name).with(found))
-}
-
-/// What is wrong with two names, and in a body that sees both.
-#[cycle(faults)]
-fn faults_under_two(
-    alloc: Global,
-    globals: &Globals,
-    scope: &mut Scope,
-    first: &Symbol,
-    second: &Symbol,
-    body: &Expr,
-) -> Result<Faults, AllocError>
-    requires { length scope.old + 2 + weight body.now ≤ 4294967295 }
-    ensures found { let names = first.now ∷ second.now ∷ [] in
-        IfOk result (λ f. f ≡ with (binding_faults names) (faults globals.now body.now (scope.old ++ named names))) }
-    ensures scope { OnOk result (scope.new ≡ scope.old) }
-{
-    let outer = scope.len();
-    scope.push(first)?;
-    scope.push(second)?;
-    let found = faults_in(alloc, globals, scope, body)?;
-    scope.cut(outer);
-    Ok(binding_faults_of_two(first, second).with(found))
 }

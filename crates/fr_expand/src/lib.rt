@@ -15,6 +15,7 @@ mod refusal;
 mod second_pass;
 mod shaping;
 mod translation;
+mod view;
 
 pub use expansion::{ExpandStop, expand};
 pub use laws::expansion_is_one;

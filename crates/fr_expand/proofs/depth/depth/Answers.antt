@@ -3,4 +3,4 @@ use Rattle.fr_expand.proofs.Nested.{nests}
 use Rattle.fr_expand.proofs.depth.depth.Goals as goal
 
 pub returns : goal.returns
-returns c = λ globals scope. c.depth_of.ensures ∙ ap (min 501) (sym (nests c.args.expr.now globals scope))
+returns c = λ globals scope. c.depth_of.ensures ∙ ap (min 501) (sym (nests globals c.args.expr.now scope))

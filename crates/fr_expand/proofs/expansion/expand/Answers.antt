@@ -2,7 +2,7 @@ use Rattle.std.proofs.Common.{arith, length, sym, ap, ◌∙◌, ◌+◌, subst,
 use Rattle.std.proofs.lemmas.List.{length-map}
 use Rattle.fr_value.specs.Data.{data_of, datum_of}
 use Rattle.fr_expand.specs.Stops.{Tells}
-use Rattle.fr_expand.proofs.Expanded.{finds_shaped, finds_form, finds_handler, finds_program, finds_well_formed, finds_few}
+use Rattle.fr_expand.proofs.Expanded.{finds_shaped, finds_form, finds_handler, finds_program, finds_well_formed}
 use Rattle.fr_expand.proofs.Sizes.{few_data, shaped_few, shaped_small}
 use Rattle.fr_expand.proofs.expansion.expand.Goals as goal
 
@@ -54,10 +54,10 @@ returns-clause-expanded c =
 
 pub returns-clause-well_formed : goal.returns-clause-well_formed
 returns-clause-well_formed c =
-    finds_well_formed (data_of c.args.forms.now) c.in_ok-globals.globals c.as_slice-shaped.result.now c.in_ok-globals.ensures (c.as_slice-shaped.ensures.value ∙ c.in_ok-shapes.ensures)
-    c.in_ok-refusal.field-0 c.in_ok-program.program c.in_default.is c.in_ok-refusal.ensures (omega (arith, length-map c.args.forms.now datum_of, c.if-shaped-forms.false)) c.in_ok-program.ensures c.requires
+    (finds_well_formed (data_of c.args.forms.now) c.in_ok-globals.globals c.as_slice-shaped.result.now c.in_ok-globals.ensures (c.as_slice-shaped.ensures.value ∙ c.in_ok-shapes.ensures)
+    c.in_ok-refusal.field-0 c.in_ok-program.program c.in_default.is c.in_ok-refusal.ensures (omega (arith, length-map c.args.forms.now datum_of, c.if-shaped-forms.false)) c.in_ok-program.ensures c.requires).0
 
 pub returns-clause-few : goal.returns-clause-few
 returns-clause-few c =
-    finds_few (data_of c.args.forms.now) c.in_ok-globals.globals c.as_slice-shaped.result.now c.in_ok-globals.ensures (c.as_slice-shaped.ensures.value ∙ c.in_ok-shapes.ensures)
-    c.in_ok-program.program c.in_ok-program.ensures c.requires
+    (finds_well_formed (data_of c.args.forms.now) c.in_ok-globals.globals c.as_slice-shaped.result.now c.in_ok-globals.ensures (c.as_slice-shaped.ensures.value ∙ c.in_ok-shapes.ensures)
+    c.in_ok-refusal.field-0 c.in_ok-program.program c.in_default.is c.in_ok-refusal.ensures (omega (arith, length-map c.args.forms.now datum_of, c.if-shaped-forms.false)) c.in_ok-program.ensures c.requires).1

@@ -2,40 +2,23 @@ use Rattle.std.proofs.Common.{◌≡◌, ◌+◌, ◌*◌, map, length, drop, ta
 use Rattle.fr_value.specs.Data.{total}
 use Rattle.fr_syntax.specs.Weights.{weight}
 use Rattle.fr_expand.specs.Faults.{with, faults, chain_faults, all_faults, chained_faults}
+use Rattle.fr_expand.specs.Shapes.{exprs_of}
 use Rattle.fr_expand.proofs.faults.+faults.Given as goal
 
 abbrev pub decreases-faults_in : goal.decreases-faults_in
-decreases-faults_in l = 3 * weight l.expr.now
+decreases-faults_in l = 4 * weight l.expr.now
 
-abbrev pub decreases-faults_in_two : goal.decreases-faults_in_two
-decreases-faults_in_two l = 1 + 3 * (weight l.a.now + weight l.b.now)
-
-abbrev pub decreases-faults_in_three : goal.decreases-faults_in_three
-decreases-faults_in_three l = 2 + 3 * (weight l.a.now + weight l.b.now + weight l.c.now)
+abbrev pub decreases-faults_in_group : goal.decreases-faults_in_group
+decreases-faults_in_group l = 2 + 4 * total (map weight (exprs_of l.parts))
 
 abbrev pub decreases-faults_in_each : goal.decreases-faults_in_each
-decreases-faults_in_each l = 1 + 3 * total (map weight l.parts.now)
+decreases-faults_in_each l = 1 + 4 * total (map weight l.parts.now)
 
-abbrev pub decreases-faults_in_call : goal.decreases-faults_in_call
-decreases-faults_in_call l = 2 + 3 * total (map weight l.parts.now)
-
-abbrev pub decreases-faults_in_let : goal.decreases-faults_in_let
-decreases-faults_in_let l = 2 + 3 * (length l.names.now + total (map weight l.parts.now) + weight l.body.now)
-
-abbrev pub decreases-faults_under_all : goal.decreases-faults_under_all
-decreases-faults_under_all l = 1 + 3 * weight l.body.now
+abbrev pub decreases-faults_in_binding : goal.decreases-faults_in_binding
+decreases-faults_in_binding l = 3 + 4 * (total (map weight (exprs_of l.parts)) + weight l.body.now)
 
 abbrev pub decreases-faults_in_chain : goal.decreases-faults_in_chain
-decreases-faults_in_chain l = 1 + 3 * (length l.names.now + total (map weight l.parts.now) + weight l.body.now)
-
-abbrev pub decreases-faults_in_cond : goal.decreases-faults_in_cond
-decreases-faults_in_cond l = 2 + 3 * (total (map weight l.tests.now) + total (map weight l.parts.now) + weight l.other.now)
-
-abbrev pub decreases-faults_under_one : goal.decreases-faults_under_one
-decreases-faults_under_one l = 1 + 3 * weight l.body.now
-
-abbrev pub decreases-faults_under_two : goal.decreases-faults_under_two
-decreases-faults_under_two l = 1 + 3 * weight l.body.now
+decreases-faults_in_chain l = 1 + 4 * (total (map weight l.parts.now) + weight l.body.now)
 
 abbrev pub invariant-faults_in_each-loop-part : goal.invariant-faults_in_each-loop-part
 invariant-faults_in_each-loop-part l = record {
