@@ -1,4 +1,2 @@
-pub mod Courses
-pub mod Sessions
 pub mod Runs
 pub mod Statuses

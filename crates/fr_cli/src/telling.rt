@@ -2,11 +2,11 @@ ghost use Rattle.std.specs.Prelude.{◌≡◌, ◌≤◌, ◌++◌, OnOk, OnErr,
 ghost use Rattle.std.specs.Io.KnownBytes.{Appends};
 ghost use Rattle.fr_io.specs.Faults.{Rose};
 ghost use Rattle.fr_io.specs.Files.{AppendsSome};
-ghost use Rattle.fr_cli.specs.Lines.{status_of, line_of, refusal_end, program_word, line_word, script_word, Tells};
+ghost use Rattle.fr_cli.specs.Lines.{status_of, line_of, refusal_end, program_word, line_word, Tells};
 
 use fr_io::{Failed, Sink, write_all};
 use fr_script::LineKind;
-use fr_show::{ProgramKind, ScriptKind, Stop};
+use fr_show::{ProgramKind, Stop};
 use itoa::Buffer;
 
 /// The exit status of a stop.
@@ -100,22 +100,11 @@ fn program_end(kind: ProgramKind) -> &'static [u8]
         ProgramKind::Twice => b": twice\n",
         ProgramKind::Handler => b": handler\n",
         ProgramKind::Nesting => b": nesting\n",
-        ProgramKind::Unbuilt => b": unbuilt\n",
     }
 }
 
 /// How the line of a refused script ends.
-fn script_end(kind: ScriptKind) -> &'static [u8]
-    ensures { result.now ≡ refusal_end (script_word kind) }
-{
-    match kind {
-        ScriptKind::Line(kind) => line_end(kind),
-        ScriptKind::Unbuilt => b": unbuilt\n",
-    }
-}
-
-/// How the line of a script refused at a line ends.
-fn line_end(kind: LineKind) -> &'static [u8]
+fn script_end(kind: LineKind) -> &'static [u8]
     ensures { result.now ≡ refusal_end (line_word kind) }
 {
     match kind {

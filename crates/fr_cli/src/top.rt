@@ -2,8 +2,7 @@ ghost use Rattle.std.specs.Prelude.{◌≡◌, ◌≢◌, ◌≤◌, ◌↔◌, 
 ghost use Rattle.fr_io.specs.Faults.{Rose, NoneFalls};
 ghost use Rattle.fr_io.specs.Files.{AppendsSome, ReachesFront};
 ghost use Rattle.std.specs.Io.KnownBytes.{Appends};
-ghost use Rattle.fr_show.specs.Accepted.{IsVerdict, OnJudged, OnEachJudged};
-ghost use Rattle.fr_first.specs.Sums.{IsVerdict as IsRunVerdict, course_of};
+ghost use Rattle.fr_show.specs.Accepted.{OnJudged, OnEachJudged};
 ghost use Rattle.fr_show.specs.Course.{joined};
 ghost use Rattle.fr_show.specs.Output.{course_over};
 ghost use Rattle.fr_cli.specs.Command.{command_of, checked, OnCommand, OnEachCommand, OnWords, OnEachWords, files_in, files_of, AnyRose, ReadsToEnd, IsAmong, Answers, IsQuiet};
@@ -12,15 +11,13 @@ ghost use Rattle.fr_show.specs.Ends.{EndsThere, SaysOn, AppendsWhole, RefusesPro
 ghost use Rattle.fr_cli.specs.Lines.{status_of, status_of_end, Stopped};
 
 use crate::command::{Request, request_of};
-use crate::session::session;
 use crate::telling::{status, tell};
-use fr_first::accept_sums;
 use fr_io::{ReadStop, Shelf, Sink, read_up_to, write_all};
 use fr_run::afresh_session;
 use fr_show::{PROGRAM_LIMIT, Stop, accept};
 use std::alloc::Global;
 
-/// Reads and judges the program, and runs it over the script.
+/// Reads the program, and runs it over the script by evaluating the whole of it afresh at every instant.
 fn run<S: Shelf, O: Sink>(
     alloc: Global,
     program: &str,
@@ -28,40 +25,8 @@ fn run<S: Shelf, O: Sink>(
     shelf: &mut S,
     out: &mut O,
 ) -> Result<(), Stop>
-    ensures ok { OnOk result (OnJudged IsRunVerdict (course_of (S.holds shelf.old script.now)) (S.holds shelf.old program.now) (λ c. EndsThere None c (O.written out.old) (O.written out.new))) }
-    ensures err { IfErr result (λ stop. SaysOn stop (OnJudged IsRunVerdict (course_of (S.holds shelf.old script.now)) (S.holds shelf.old program.now)) (OnEachJudged IsRunVerdict (course_of (S.holds shelf.old script.now)) (S.holds shelf.old program.now)) (O.written out.old) (O.written out.new)) }
-    ensures to_end { OnOk result (script.now ≢ program.now → IfSome (S.holds shelf.old script.now) (λ file. ReachesFront (S.reached shelf.old script.now) (S.reached shelf.new script.now) (length file))) }
-    ensures shelf_counts { NoneFalls (S.faults shelf.old) (S.faults shelf.new) }
-    ensures out_counts { O.faults out.old ≤ O.faults out.new }
-    ensures read_fault { IsErrOf result Stop.Read → Rose (S.faults shelf.old program.now) (S.faults shelf.new program.now) ⊎ Rose (S.faults shelf.old script.now) (S.faults shelf.new script.now) }
-    ensures write_fault { IsErrOf result Stop.Write → Rose (O.faults out.old) (O.faults out.new) }
-    ensures no_usage { IsErrOf result Stop.Usage → ⊥ }
-{
-    let bytes = match read_up_to(alloc, shelf, program, PROGRAM_LIMIT) {
-        Ok(bytes) => bytes,
-        Err(ReadStop::Memory(e)) => return Err(Stop::Memory(e)),
-        Err(ReadStop::Failed) => return Err(Stop::Read),
-    };
-    let program = match accept_sums(alloc, &bytes) {
-        Ok(program) => program,
-        Err(stop) => return Err(stop.into_stop()),
-    };
-    match session(alloc, program, script, shelf, out) {
-        Ok(()) => Ok(()),
-        Err(stop) => Err(stop),
-    }
-}
-
-/// Reads the program, and runs it over the script by evaluating it afresh at every instant.
-fn afresh<S: Shelf, O: Sink>(
-    alloc: Global,
-    program: &str,
-    script: &str,
-    shelf: &mut S,
-    out: &mut O,
-) -> Result<(), Stop>
-    ensures ok { OnOk result (OnJudged IsVerdict (course_over (S.holds shelf.old script.now)) (S.holds shelf.old program.now) (λ c. EndsThere None c (O.written out.old) (O.written out.new))) }
-    ensures err { IfErr result (λ stop. SaysOn stop (OnJudged IsVerdict (course_over (S.holds shelf.old script.now)) (S.holds shelf.old program.now)) (OnEachJudged IsVerdict (course_over (S.holds shelf.old script.now)) (S.holds shelf.old program.now)) (O.written out.old) (O.written out.new)) }
+    ensures ok { OnOk result (OnJudged (course_over (S.holds shelf.old script.now)) (S.holds shelf.old program.now) (λ c. EndsThere None c (O.written out.old) (O.written out.new))) }
+    ensures err { IfErr result (λ stop. SaysOn stop (OnJudged (course_over (S.holds shelf.old script.now)) (S.holds shelf.old program.now)) (OnEachJudged (course_over (S.holds shelf.old script.now)) (S.holds shelf.old program.now)) (O.written out.old) (O.written out.new)) }
     ensures to_end { OnOk result (script.now ≢ program.now → IfSome (S.holds shelf.old script.now) (λ file. ReachesFront (S.reached shelf.old script.now) (S.reached shelf.new script.now) (length file))) }
     ensures shelf_counts { NoneFalls (S.faults shelf.old) (S.faults shelf.new) }
     ensures out_counts { O.faults out.old ≤ O.faults out.new }
@@ -87,8 +52,8 @@ fn check<S: Shelf, O: Sink>(
     shelf: &mut S,
     out: &mut O,
 ) -> Result<(), Stop>
-    ensures ok { OnOk result (OnJudged IsVerdict checked (S.holds shelf.old program.now) (λ c. EndsThere None c (O.written out.old) (O.written out.new))) }
-    ensures err { IfErr result (λ stop. SaysOn stop (OnJudged IsVerdict checked (S.holds shelf.old program.now)) (OnEachJudged IsVerdict checked (S.holds shelf.old program.now)) (O.written out.old) (O.written out.new)) }
+    ensures ok { OnOk result (OnJudged checked (S.holds shelf.old program.now) (λ c. EndsThere None c (O.written out.old) (O.written out.new))) }
+    ensures err { IfErr result (λ stop. SaysOn stop (OnJudged checked (S.holds shelf.old program.now)) (OnEachJudged checked (S.holds shelf.old program.now)) (O.written out.old) (O.written out.new)) }
     ensures quiet { IfErr result (λ stop. stop ≢ Stop.Write → Appends (O.written out.old) (O.written out.new) []) }
     ensures to_end { OnOk result (IfSome (S.holds shelf.old program.now) (λ file. ReachesFront (S.reached shelf.old program.now) (S.reached shelf.new program.now) (length file))) }
     ensures read_fault { IsErrOf result Stop.Read → Rose (S.faults shelf.old program.now) (S.faults shelf.new program.now) }
@@ -131,7 +96,7 @@ fn fulfil<S: Shelf, O: Sink>(
             Ok(()) => Ok(()),
             Err(stop) => Err(stop),
         },
-        Request::Afresh { program, script } => match afresh(alloc, program, script, shelf, out) {
+        Request::Afresh { program, script } => match run(alloc, program, script, shelf, out) {
             Ok(()) => Ok(()),
             Err(stop) => Err(stop),
         },
@@ -169,8 +134,8 @@ fn obey<S: Shelf, O: Sink>(
 
 /// The top call. `words` are the words after the program's name. `run PROGRAM SCRIPT` runs the program in the first file
 /// over the script in the second, and appends to `out`, at instant 0 and at each instant of the script, the displayed
-/// values that have changed. `afresh PROGRAM SCRIPT` does the same for every accepted program, by evaluating the whole
-/// program afresh at every instant. `check PROGRAM` appends `accepted` and a newline where the program in the file is accepted.
+/// values that have changed. It uses no graph yet: as `afresh PROGRAM SCRIPT` does, it evaluates the whole program afresh at
+/// every instant. `check PROGRAM` appends `accepted` and a newline where the program in the file is accepted.
 /// The answer is the exit status; for each but 0, one line on `err` tells why:
 ///
 /// | Status | Line | Comes |

@@ -17,13 +17,13 @@ use Rattle.fr_show.specs.declared.acceptance.AcceptStop.{AcceptStop}
 use Rattle.fr_show.specs.declared.acceptance.AcceptStop.TheVariants as accept
 use Rattle.fr_show.specs.declared.stop.Stop.{Stop}
 use Rattle.fr_show.specs.declared.stop.Stop.TheVariants.{Usage, Script, Evaluation, Program as Refused, Read, Write, Memory}
-use Rattle.fr_show.specs.Accepted.{Verdict, IsVerdict, OnJudged, OnEachJudged}
+use Rattle.fr_show.specs.Accepted.{Verdict, OnJudged, OnEachJudged}
 use Rattle.fr_show.specs.Stops.{Tells}
 use Rattle.fr_show.specs.Course.{Course, joined, after}
 use Rattle.fr_show.specs.Ends.{EndsThere, StopSays, SaysOn}
 use Rattle.fr_show.specs.Output.{shows_of, unless_errs, onward, over_instants, script_end, program_course, course_over}
 use Rattle.fr_show.proofs.Courses.{appends_nothing, appends_one, ends_after, whole_after, some_after, nothing_whole}
-use Rattle.fr_show.proofs.Judged.{text_judging, on_each, says_judged}
+use Rattle.fr_show.proofs.Judged.{on_each, says_judged}
 use Rattle.fr_run.specs.Scripts.{IsFed}
 use Rattle.fr_run.specs.Runs.{Wrote, course_behind}
 use Rattle.fr_show.specs.Stops.{unaccepted}
@@ -130,8 +130,8 @@ over_told p (Some file) F k = k
 
 -- a program that isn't accepted
 pub says_unaccepted : (bytes : List ℕ) (held : Option (List ℕ)) (e : AcceptStop) (x : Option (List ℕ)) → Tells bytes e
-    → SaysOn (unaccepted e) (OnJudged IsVerdict (course_over held) (Some bytes)) (OnEachJudged IsVerdict (course_over held) (Some bytes)) x x
-says_unaccepted bytes held (accept.Memory m) x h = on_each IsVerdict (course_over held) (Some bytes) _ (λ c. nothing_whole c.texts x)
+    → SaysOn (unaccepted e) (OnJudged (course_over held) (Some bytes)) (OnEachJudged (course_over held) (Some bytes)) x x
+says_unaccepted bytes held (accept.Memory m) x h = on_each (course_over held) (Some bytes) _ (λ c. nothing_whole c.texts x)
 says_unaccepted bytes held (accept.Refused form kind) x h =
     let v : Verdict = Err (record { form = form; kind = kind }) in
-    says_judged IsVerdict text_judging (course_over held) bytes v (Refused form kind) x x h (refl, appends_nothing x)
+    says_judged (course_over held) bytes v (Refused form kind) x x h (refl, appends_nothing x)

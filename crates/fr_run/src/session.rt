@@ -7,7 +7,7 @@ ghost use Rattle.fr_script.specs.Sources.{Named, sources};
 ghost use Rattle.fr_meaning.specs.Texts.{Shown, instant_text, next_each};
 ghost use Rattle.fr_meaning.specs.Afresh.{State, beginning, first_instant, instant as instant_after};
 ghost use Rattle.fr_afresh.specs.Stands.{program_of, state_of, shown_of};
-ghost use Rattle.fr_show.specs.Accepted.{IsVerdict, OnJudged, OnEachJudged};
+ghost use Rattle.fr_show.specs.Accepted.{OnJudged, OnEachJudged};
 ghost use Rattle.fr_show.specs.Course.{Course};
 ghost use Rattle.fr_show.specs.Ends.{EndsThere, StopSays, SaysOn};
 ghost use Rattle.fr_show.specs.Output.{shows_of, onward, program_course, course_over};
@@ -271,8 +271,8 @@ pub fn afresh_session<S: Shelf, O: Sink>(
     shelf: &mut S,
     out: &mut O,
 ) -> Result<(), Stop>
-    ensures ok { OnOk result (OnJudged IsVerdict (course_over (S.holds shelf.old script.now)) (Some program.now) (λ c. EndsThere None c (O.written out.old) (O.written out.new))) }
-    ensures err { IfErr result (λ stop. SaysOn stop (OnJudged IsVerdict (course_over (S.holds shelf.old script.now)) (Some program.now)) (OnEachJudged IsVerdict (course_over (S.holds shelf.old script.now)) (Some program.now)) (O.written out.old) (O.written out.new)) }
+    ensures ok { OnOk result (OnJudged (course_over (S.holds shelf.old script.now)) (Some program.now) (λ c. EndsThere None c (O.written out.old) (O.written out.new))) }
+    ensures err { IfErr result (λ stop. SaysOn stop (OnJudged (course_over (S.holds shelf.old script.now)) (Some program.now)) (OnEachJudged (course_over (S.holds shelf.old script.now)) (Some program.now)) (O.written out.old) (O.written out.new)) }
     ensures to_end { OnOk result (IfSome (S.holds shelf.old script.now) (λ file. ReachesFront (S.reached shelf.old script.now) (S.reached shelf.new script.now) (length file))) }
     ensures files { (other : List ℕ) → S.holds shelf.new other ≡ S.holds shelf.old other }
     ensures shelf_counts { NoneFalls (S.faults shelf.old) (S.faults shelf.new) }

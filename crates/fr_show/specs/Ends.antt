@@ -5,7 +5,7 @@ use Rattle.fr_io.specs.Files.{AppendsSome}
 use Rattle.fr_show.specs.declared.stop.Stop.{Stop}
 use Rattle.fr_show.specs.declared.stop.Stop.TheVariants.{Usage, Program, Script, Evaluation, Read, Write, Memory}
 use Rattle.fr_show.specs.declared.stop.ProgramKind.{ProgramKind}
-use Rattle.fr_show.specs.declared.stop.ScriptKind.{ScriptKind}
+use Rattle.fr_script.specs.declared.turn.LineKind.{LineKind}
 use Rattle.fr_show.specs.Course.{Course, joined}
 
 -- a whole number of these texts was appended, from the first on
@@ -42,7 +42,7 @@ abbrev pub RefusesProgram : Course → Option (List ℕ) → Option (List ℕ) �
 RefusesProgram c old new = (form : ℕ) × (kind : ProgramKind) × EndsThere (Some (Program form kind)) c old new
 
 abbrev pub RefusesScript : Course → Option (List ℕ) → Option (List ℕ) → Type 0
-RefusesScript c old new = (line : ℕ) × (kind : ScriptKind) × EndsThere (Some (Script line kind)) c old new
+RefusesScript c old new = (line : ℕ) × (kind : LineKind) × EndsThere (Some (Script line kind)) c old new
 
 abbrev pub Errs : Course → Option (List ℕ) → Option (List ℕ) → Type 0
 Errs c old new = (time : ℕ) × EndsThere (Some (Evaluation time)) c old new

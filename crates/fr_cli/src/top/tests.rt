@@ -5,9 +5,9 @@ use fr_io::{MemShelf, MemSink};
 use std::alloc::{AllocError, Global};
 use std::test::Fail;
 
-const PROGRAM: &str = "(define-input x 1)(show y (+ x 1))";
+const PROGRAM: &str = "(define-event e)(show y (collect-b e 2 (lambda (v sum) (+ sum v))))";
 
-const SCRIPT: &str = "5 x 4";
+const SCRIPT: &str = "5 e 3";
 
 const RUN: &[&str] = &["run", "p", "s"];
 
