@@ -1,4 +1,3 @@
-pub mod Courses
-pub mod Sessions
 pub mod Runs
 pub mod Statuses
+pub mod Told

@@ -1,82 +1,121 @@
--- The commands, and the course of each.
-use Rattle.std.specs.Prelude.{ℕ, ◌≡◌, ◌≢◌, ◌&&◌, length, IfSome, ◌==◌, not, Bool, true, if◌then◌else◌, List, [], ◌∷◌, Option, Some, None, Ok, Err, codes, ◌⊎◌}
+-- The commands: what words ask for each, which files it reads, what it does, and how it may end.
+use Rattle.std.specs.Prelude.{ℕ, ◌≡◌, ◌&&◌, ◌==◌, not, Bool, true, false, IsTrue, if◌then◌else◌, List, [], ◌∷◌, length, map, Option, Some, None, IfSome, Ok, Err, codes, ◌⊎◌, String, string_bytes}
+use Rattle.std.specs.declared.alloc.Global.{Global}
 use Rattle.std.specs.Str.{bytes_eq}
-use Rattle.fr_io.specs.Faults.{Rose}
+use Rattle.std.specs.Io.KnownBytes.{Appends}
+use Rattle.fr_io.specs.Faults.{Rose, AnyRose}
 use Rattle.fr_io.specs.Files.{ReachesFront}
+use Rattle.fr_io.specs.Shelves.{Holds, Reached, Faults}
 use Rattle.fr_show.specs.declared.stop.Stop.TheVariants.{Usage, Program}
 use Rattle.fr_show.specs.Course.{Course, stopped}
-use Rattle.fr_show.specs.Accepted.{Verdict, IsVerdict, OnJudged, OnEachJudged}
+use Rattle.fr_show.specs.Accepted.{Verdict, OnJudged, OnEachJudged}
+use Rattle.fr_show.specs.Ends.{Begins}
 use Rattle.fr_show.specs.Output.{course_over}
-use Rattle.fr_first.specs.Sums.{IsVerdict as IsRunVerdict, course_of}
 
--- a command with the names of its files
-pub data Command : Type 0 where
-  run : List ℕ → List ℕ → Command
-  afresh : List ℕ → List ℕ → Command
-  check : List ℕ → Command
+-- a command: its word, the names of its program's file and of those behind it, its course by what is told of
+-- these and by what the program is judged to be, the statuses that it may answer, and whether it writes nothing
+-- where it stops, but for a write fault
+pub record Command : Type 0 where
+  pub word : List ℕ
+  pub program : List ℕ
+  pub behind : List (List ℕ)
+  pub course : Holds → Verdict → Option Course
+  pub statuses : List ℕ
+  pub quiet : Bool
 
--- whether a word can name a file: it doesn't begin with `-`
-abbrev pub names_file : List ℕ → Bool
-names_file [] = true
-names_file (b ∷ bs) = not (b == 45)
+-- a command that runs a program over a script, with the whole program evaluated afresh at every instant
+abbrev pub over_script : List ℕ → List ℕ → List ℕ → Command
+over_script word program script = record {
+  word = word;
+  program = program;
+  behind = script ∷ [];
+  course = λ holds. course_over (holds script);
+  statuses = 0 ∷ 2 ∷ 3 ∷ 4 ∷ 6 ∷ 7 ∷ 8 ∷ [];
+  quiet = false;
+}
 
--- the command that a word is before a program and a script
-abbrev pub over_script : List ℕ → List ℕ → List ℕ → Option Command
-over_script word program script =
-    if bytes_eq word (codes "run") then Some (run program script)
-    else (if bytes_eq word (codes "afresh") then Some (afresh program script) else None)
+abbrev pub run : List ℕ → List ℕ → Command
+run program script = over_script (codes "run") program script
 
--- the command that a word is before a program alone
-abbrev pub over_program : List ℕ → List ℕ → Option Command
-over_program word program = if bytes_eq word (codes "check") then Some (check program) else None
-
--- the command that the words are: `run PROGRAM SCRIPT`, `afresh PROGRAM SCRIPT` or `check PROGRAM`
-abbrev pub command_of : List (List ℕ) → Option Command
-command_of (word ∷ program ∷ script ∷ []) = if names_file program && names_file script then over_script word program script else None
-command_of (word ∷ program ∷ []) = if names_file program then over_program word program else None
-command_of _ = None
+abbrev pub afresh : List ℕ → List ℕ → Command
+afresh program script = over_script (codes "afresh") program script
 
 -- the course of `check`: an accepted program is told, and a refusal stops it
 abbrev pub checked : Verdict → Option Course
 checked (Ok p) = Some (record { texts = codes "accepted\n" ∷ []; stop = None })
 checked (Err r) = Some (stopped (Some (Program r.form r.kind)))
 
-abbrev pub OnCommand : Option Command → (List ℕ → Option (List ℕ)) → (Course → Type 0) → Type 0
+abbrev pub check : List ℕ → Command
+check program = record {
+  word = codes "check";
+  program = program;
+  behind = [];
+  course = λ holds. checked;
+  statuses = 0 ∷ 2 ∷ 6 ∷ 7 ∷ 8 ∷ [];
+  quiet = true;
+}
+
+-- the commands over one file, and those over two
+abbrev pub over_one : List ℕ → List Command
+over_one program = check program ∷ []
+
+abbrev pub over_two : List ℕ → List ℕ → List Command
+over_two program script = run program script ∷ afresh program script ∷ []
+
+-- the first of these that a word asks for
+abbrev pub asked_for : List ℕ → List Command → Option Command
+asked_for word [] = None
+asked_for word (c ∷ cs) = if bytes_eq word c.word then Some c else asked_for word cs
+
+-- whether a word can name a file: it doesn't begin with `-`
+abbrev pub names_file : List ℕ → Bool
+names_file [] = true
+names_file (b ∷ bs) = not (b == 45)
+
+-- the command that the words are: a command's word, and then the names of its files
+abbrev pub command_of : List (List ℕ) → Option Command
+command_of (word ∷ program ∷ script ∷ []) =
+    if names_file program && names_file script then asked_for word (over_two program script)
+    else None
+command_of (word ∷ program ∷ []) =
+    if names_file program then asked_for word (over_one program) else None
+command_of _ = None
+
+-- the command that the words of a command line ask for
+abbrev pub asked : List (String Global) → Option Command
+asked words = command_of (map string_bytes words)
+
+-- the fact holds of the course of a command, where what the shelf tells of its files settles it
+abbrev pub OnCommand : Option Command → Holds → (Course → Type 0) → Type 0
 OnCommand None holds F = F (stopped (Some Usage))
-OnCommand (Some (run program script)) holds F = OnJudged IsRunVerdict (course_of (holds script)) (holds program) F
-OnCommand (Some (afresh program script)) holds F = OnJudged IsVerdict (course_over (holds script)) (holds program) F
-OnCommand (Some (check program)) holds F = OnJudged IsVerdict checked (holds program) F
-
--- the fact holds of the course of the words, where what the shelf tells of their files settles it
-abbrev pub OnWords : List (List ℕ) → (List ℕ → Option (List ℕ)) → (Course → Type 0) → Type 0
-OnWords words holds F = OnCommand (command_of words) holds F
-
-abbrev pub OnEachCommand : Option Command → (List ℕ → Option (List ℕ)) → (Course → Type 0) → Type 0
-OnEachCommand None holds F = F (stopped (Some Usage))
-OnEachCommand (Some (run program script)) holds F = OnEachJudged IsRunVerdict (course_of (holds script)) (holds program) F
-OnEachCommand (Some (afresh program script)) holds F = OnEachJudged IsVerdict (course_over (holds script)) (holds program) F
-OnEachCommand (Some (check program)) holds F = OnEachJudged IsVerdict checked (holds program) F
+OnCommand (Some c) holds F = OnJudged (c.course holds) (holds c.program) F
 
 -- the same where the program's file may not have been judged
-abbrev pub OnEachWords : List (List ℕ) → (List ℕ → Option (List ℕ)) → (Course → Type 0) → Type 0
-OnEachWords words holds F = OnEachCommand (command_of words) holds F
+abbrev pub OnEachCommand : Option Command → Holds → (Course → Type 0) → Type 0
+OnEachCommand None holds F = F (stopped (Some Usage))
+OnEachCommand (Some c) holds F = OnEachJudged (c.course holds) (holds c.program) F
 
--- the script that a command names was read to its end, where that is told and no other word names the same file
-abbrev pub ReadsToEnd : Option Command → (List ℕ → Option (List ℕ)) → (List ℕ → Option ℕ) → (List ℕ → Option ℕ) → Type 0
-ReadsToEnd None holds before now = Unit {0}
-ReadsToEnd (Some (run program script)) holds before now = script ≢ program → IfSome (holds script) (λ file. ReachesFront (before script) (now script) (length file))
-ReadsToEnd (Some (afresh program script)) holds before now = script ≢ program → IfSome (holds script) (λ file. ReachesFront (before script) (now script) (length file))
-ReadsToEnd (Some (check program)) holds before now = IfSome (holds program) (λ file. ReachesFront (before program) (now program) (length file))
-
+-- the files that a command names
 abbrev pub files_in : Option Command → List (List ℕ)
 files_in None = []
-files_in (Some (run program script)) = program ∷ script ∷ []
-files_in (Some (afresh program script)) = program ∷ script ∷ []
-files_in (Some (check program)) = program ∷ []
+files_in (Some c) = c.program ∷ c.behind
 
--- the files that the words name
-abbrev pub files_of : List (List ℕ) → List (List ℕ)
-files_of words = files_in (command_of words)
+-- each of these files was read to its end, where that is told
+abbrev pub AllRead : List (List ℕ) → Holds → Reached → Reached → Type 0
+AllRead [] holds before now = Unit {0}
+AllRead (f ∷ fs) holds before now =
+    IfSome (holds f) (λ file. ReachesFront (before f) (now f) (length file))
+    × AllRead fs holds before now
+
+-- a file couldn't be read: the program's, and nothing was written; or one behind it, and of an accepted program,
+-- whose instant 0 doesn't err, exactly the text of instant 0 was, whatever the files behind hold
+abbrev pub FailsToRead : Option Command → Holds → Faults → Faults
+    → Option (List ℕ) → Option (List ℕ) → Type 0
+FailsToRead None holds before now old new = ⊥
+FailsToRead (Some c) holds before now old new =
+    (Rose (before c.program) (now c.program) × Appends old new [])
+    ⊎ (AnyRose c.behind before now
+    × ((any : Holds) → OnJudged (c.course any) (holds c.program) (λ d. Begins d old new)))
 
 abbrev pub IsAmong : ℕ → List ℕ → Type 0
 IsAmong n [] = ⊥
@@ -85,18 +124,9 @@ IsAmong n (m ∷ ms) = (n ≡ m) ⊎ IsAmong n ms
 -- the statuses that a command may answer
 abbrev pub Answers : Option Command → ℕ → Type 0
 Answers None status = status ≡ 1
-Answers (Some (run program script)) status = IsAmong status (0 ∷ 2 ∷ 3 ∷ 4 ∷ 6 ∷ 7 ∷ 8 ∷ [])
-Answers (Some (afresh program script)) status = IsAmong status (0 ∷ 2 ∷ 3 ∷ 4 ∷ 6 ∷ 7 ∷ 8 ∷ [])
-Answers (Some (check program)) status = IsAmong status (0 ∷ 2 ∷ 6 ∷ 7 ∷ 8 ∷ [])
+Answers (Some c) status = IsAmong status c.statuses
 
 -- whether a command writes nothing where it stops, but for a write fault
 abbrev pub IsQuiet : Option Command → Type 0
 IsQuiet None = Unit {0}
-IsQuiet (Some (run program script)) = ⊥
-IsQuiet (Some (afresh program script)) = ⊥
-IsQuiet (Some (check program)) = Unit {0}
-
--- the count of one of these files rose
-abbrev pub AnyRose : List (List ℕ) → (List ℕ → ℕ) → (List ℕ → ℕ) → Type 0
-AnyRose [] before now = ⊥
-AnyRose (f ∷ fs) before now = Rose (before f) (now f) ⊎ AnyRose fs before now
+IsQuiet (Some c) = IsTrue c.quiet

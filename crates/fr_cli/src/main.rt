@@ -2,7 +2,6 @@
 #![tactic(auto)]
 
 mod command;
-mod session;
 mod telling;
 mod top;
 

@@ -10,7 +10,6 @@ use Rattle.fr_script.specs.Instants.{whole, bad_line}
 use Rattle.fr_script.specs.Stands.{Stands, MayFollow, is_told, IsNext, IsAll, IsBad, TurnSays, given_after}
 use Rattle.fr_script.proofs.Limits.{good_is_short}
 use Rattle.fr_show.specs.declared.stop.Stop.TheVariants as stop
-use Rattle.fr_show.specs.declared.stop.ScriptKind.TheVariants as script_kind
 use Rattle.fr_show.specs.Output.{script_end}
 use Rattle.fr_run.specs.Scripts.{IsFed, ahead, Gives, EndsAt}
 
@@ -71,7 +70,7 @@ gives_more r q turn ss script given h =
 -- the bad line ends the script behind its whole instants
 pub ends_bad : (r q : ScriptReader) (line : ℕ) (kind : LineKind)
     → ((ss : List Named) (fed : List ℕ) (given : ℕ) → Stands r ss fed given → IsBad (line, kind) ss fed (is_told r) given × Stands q ss fed given)
-    → (ss : List Named) (script : List ℕ) (given : ℕ) → IsFed r ss script given → EndsAt (stop.Script line (script_kind.Line kind)) ss script given
+    → (ss : List Named) (script : List ℕ) (given : ℕ) → IsFed r ss script given → EndsAt (stop.Script line kind) ss script given
 ends_bad r q line kind turn ss script given h =
     let t = turn ss h.fed given h.stands in
     let w = t.0.whatever h.behind true h.follows in (

@@ -17,13 +17,13 @@ use Rattle.fr_show.specs.declared.acceptance.AcceptStop.{AcceptStop}
 use Rattle.fr_show.specs.declared.acceptance.AcceptStop.TheVariants as accept
 use Rattle.fr_show.specs.declared.stop.Stop.{Stop}
 use Rattle.fr_show.specs.declared.stop.Stop.TheVariants.{Usage, Script, Evaluation, Program as Refused, Read, Write, Memory}
-use Rattle.fr_show.specs.Accepted.{Verdict, IsVerdict, OnJudged, OnEachJudged}
+use Rattle.fr_show.specs.Accepted.{Verdict, OnJudged, OnEachJudged}
 use Rattle.fr_show.specs.Stops.{Tells}
 use Rattle.fr_show.specs.Course.{Course, joined, after}
-use Rattle.fr_show.specs.Ends.{EndsThere, StopSays, SaysOn}
+use Rattle.fr_show.specs.Ends.{EndsThere, StopSays, SaysOn, Begins}
 use Rattle.fr_show.specs.Output.{shows_of, unless_errs, onward, over_instants, script_end, program_course, course_over}
 use Rattle.fr_show.proofs.Courses.{appends_nothing, appends_one, ends_after, whole_after, some_after, nothing_whole}
-use Rattle.fr_show.proofs.Judged.{text_judging, on_each, says_judged}
+use Rattle.fr_show.proofs.Judged.{on_each, says_judged}
 use Rattle.fr_run.specs.Scripts.{IsFed}
 use Rattle.fr_run.specs.Runs.{Wrote, course_behind}
 use Rattle.fr_show.specs.Stops.{unaccepted}
@@ -112,6 +112,18 @@ first_stops stop p a later x y z file w unread says =
     let text = instant_text 0 (shows_of p.body) (instant p (beginning p) first_instant).evaluated.shown in
     subst (λ (c : Course). StopSays stop c x z) (sym (course_first p a later x y file w)) (says_first stop text (course_behind (program_of a) (sources (program_of a)) file 0 (state_of a) later) x y z w.written unread says)
 
+-- behind instant 0 alone
+pub first_begins : (p : Program) (a : Afresh) (later : List Shown) (x y z : Option (List ℕ)) (file : List ℕ)
+    → Wrote a p (instant p (beginning p) first_instant) 0 (shows_of p.body) later x y → z ≡ y → Begins (program_course p file true) x z
+first_begins p a later x y z file w same =
+    let text = instant_text 0 (shows_of p.body) (instant p (beginning p) first_instant).evaluated.shown in
+    record {
+      text = text;
+      behind = (course_behind (program_of a) (sources (program_of a)) file 0 (state_of a) later).texts;
+      texts = ap (λ (c : Course). c.texts) (course_first p a later x y file w);
+      written = subst (λ (o : Option (List ℕ)). Appends x o text) (sym same) w.written;
+    }
+
 -- a stop within instant 0
 pub stops_first : (stop : Stop) (p : Program) (shows : List Shown) (x y : Option (List ℕ)) (file : List ℕ) → shows ≡ shows_of p.body
     → ((rest : State → List Shown → Course) → StopSays stop (onward 0 shows (instant p (beginning p) first_instant) rest) x y) → StopSays stop (program_course p file true) x y
@@ -130,8 +142,8 @@ over_told p (Some file) F k = k
 
 -- a program that isn't accepted
 pub says_unaccepted : (bytes : List ℕ) (held : Option (List ℕ)) (e : AcceptStop) (x : Option (List ℕ)) → Tells bytes e
-    → SaysOn (unaccepted e) (OnJudged IsVerdict (course_over held) (Some bytes)) (OnEachJudged IsVerdict (course_over held) (Some bytes)) x x
-says_unaccepted bytes held (accept.Memory m) x h = on_each IsVerdict (course_over held) (Some bytes) _ (λ c. nothing_whole c.texts x)
+    → SaysOn (unaccepted e) (OnJudged (course_over held) (Some bytes)) (OnEachJudged (course_over held) (Some bytes)) x x
+says_unaccepted bytes held (accept.Memory m) x h = on_each (course_over held) (Some bytes) _ (λ c. nothing_whole c.texts x)
 says_unaccepted bytes held (accept.Refused form kind) x h =
     let v : Verdict = Err (record { form = form; kind = kind }) in
-    says_judged IsVerdict text_judging (course_over held) bytes v (Refused form kind) x x h (refl, appends_nothing x)
+    says_judged (course_over held) bytes v (Refused form kind) x x h (refl, appends_nothing x)

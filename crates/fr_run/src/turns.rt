@@ -3,12 +3,11 @@
 ghost use Rattle.std.specs.Prelude.{◌≡◌, ◌<◌, ℕ, List, take, IfOk, IfErr, IfSome, IsErrOf};
 ghost use Rattle.fr_script.specs.Sources.{Named, sources};
 ghost use Rattle.fr_script.specs.Stands.{left};
-ghost use Rattle.fr_show.specs.declared.stop.ScriptKind.TheVariants as ScriptKind;
 ghost use Rattle.fr_run.specs.Scripts.{IsFed, Gives, EndsAt};
 
 use fr_core::{Inputs, Program};
 use fr_script::{LineKind, ScriptReader, Turn};
-use fr_show::{ScriptKind, Stop};
+use fr_show::Stop;
 use std::alloc::{AllocError, Global};
 
 /// The most bytes of a script.
@@ -31,16 +30,6 @@ pub(crate) fn reader_of(
     Ok(reader)
 }
 
-/// The stop of a bad line.
-fn refused(line: u64, kind: LineKind) -> Stop
-    ensures { result ≡ Stop.Script line (ScriptKind.Line kind) }
-{
-    Stop::Script {
-        line,
-        kind: ScriptKind::Line(kind),
-    }
-}
-
 /// Gives the script's next instant, or none at its end.
 pub(crate) fn next_instant(reader: &mut ScriptReader) -> Result<Option<Inputs>, Stop>
     ensures ok { IfOk result (λ next. (ss : List Named) (script : List ℕ) (given : ℕ) → IsFed reader.old ss script given → Gives next reader.new ss script given) }
@@ -54,7 +43,7 @@ pub(crate) fn next_instant(reader: &mut ScriptReader) -> Result<Option<Inputs>, 
         Ok(Turn::Instant(inputs)) => Ok(Some(inputs)),
         Ok(Turn::More) => Ok(None),
         Ok(Turn::End) => Ok(None),
-        Ok(Turn::Refused { line, kind }) => Err(refused(line, kind)),
+        Ok(Turn::Refused { line, kind }) => Err(Stop::Script { line, kind }),
         Err(e) => Err(Stop::Memory(e)),
     }
 }

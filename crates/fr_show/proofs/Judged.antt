@@ -4,52 +4,30 @@ use Rattle.fr_io.specs.Files.{ReachesFront}
 use Rattle.fr_core.specs.declared.program.Program.{Program as Core}
 use Rattle.fr_show.specs.declared.stop.Stop.{Stop}
 use Rattle.fr_show.specs.declared.stop.Stop.TheVariants.{Usage, Script, Evaluation, Program, Read, Write, Memory}
-use Rattle.fr_show.specs.Accepted.{IsProgram, IsVerdict, OnJudged, OnEachJudged}
+use Rattle.fr_show.specs.Accepted.{Verdict, IsProgram, IsVerdict, OnJudged, OnEachJudged}
 use Rattle.fr_show.specs.Course.{Course}
 use Rattle.fr_show.specs.Ends.{StopSays, SaysOn}
-use Rattle.fr_show.proofs.Verdicts.{judged_front, verdict_is_one, whole_front}
-
--- a way to judge texts: a text has one verdict, and its front decides it
-pub record Judging {V : Type 0} (judged : List ℕ → V → Type 0) : Type 0 where
-  pub one : (bytes : List ℕ) (v w : V) → judged bytes v → judged bytes w → v ≡ w
-  pub front : (bytes : List ℕ) (v : V) → judged (take 1048577 bytes) v → judged bytes v
-
-pub text_judging : Judging IsVerdict
-text_judging = record { one = verdict_is_one; front = judged_front }
+use Rattle.fr_show.proofs.Verdicts.{judged_front, front_judged, verdict_is_one, whole_front}
 
 pub any_course : (o : Option Course) (F : Course → Type 0) → ((c : Course) → F c) → IfSome o F
 any_course None F h = tt
 any_course (Some c) F h = h c
 
 -- what holds of every course holds of that of each verdict
-pub on_each : {V : Type 0} (judged : List ℕ → V → Type 0) (course : V → Option Course) (held : Option (List ℕ)) (F : Course → Type 0) → ((c : Course) → F c)
-    → OnEachJudged judged course held F
-on_each judged course None F h = tt
-on_each judged course (Some bytes) F h = λ v is. any_course (course v) F h
+pub on_each : (course : Verdict → Option Course) (held : Option (List ℕ)) (F : Course → Type 0) → ((c : Course) → F c) → OnEachJudged course held F
+on_each course None F h = tt
+on_each course (Some bytes) F h = λ v is. any_course (course v) F h
 
 -- what holds of the course of the verdict on what was read
-pub on_read : {V : Type 0} (judged : List ℕ → V → Type 0) → Judging judged → (course : V → Option Course) (held : Option (List ℕ)) (bytes : List ℕ) (v : V) (F : Course → Type 0)
-    → IfSome held (λ file. bytes ≡ take 1048577 file) → judged bytes v → IfSome (course v) F → OnJudged judged course held F
-on_read judged j course None bytes v F h is k = tt
-on_read judged j course (Some file) bytes v F h is k = (v, j.front file v (subst (λ b. judged b v) h is), k)
+pub on_read : (course : Verdict → Option Course) (held : Option (List ℕ)) (bytes : List ℕ) (v : Verdict) (F : Course → Type 0)
+    → IfSome held (λ file. bytes ≡ take 1048577 file) → IsVerdict bytes v → IfSome (course v) F → OnJudged course held F
+on_read course None bytes v F h is k = tt
+on_read course (Some file) bytes v F h is k = (v, judged_front file v (subst (λ b. IsVerdict b v) h is), k)
 
 -- a text has one verdict, so the course of the one is that of each
-pub each_of : {V : Type 0} (judged : List ℕ → V → Type 0) → Judging judged → (course : V → Option Course) (held : Option (List ℕ)) (F : Course → Type 0)
-    → OnJudged judged course held F → OnEachJudged judged course held F
-each_of judged j course None F k = tt
-each_of judged j course (Some bytes) F k = λ v is. subst (λ w. IfSome (course w) F) (j.one bytes k.0 v k.1 is) k.2
-
--- a stop that says so of the course of the verdict on what was read
-pub says_read : {V : Type 0} (judged : List ℕ → V → Type 0) → Judging judged → (course : V → Option Course) (held : Option (List ℕ)) (bytes : List ℕ) (v : V) (stop : Stop) (x y : Option (List ℕ))
-    → IfSome held (λ file. bytes ≡ take 1048577 file) → judged bytes v → IfSome (course v) (λ c. StopSays stop c x y)
-    → SaysOn stop (OnJudged judged course held) (OnEachJudged judged course held) x y
-says_read judged j course held bytes v Usage x y h is k = on_read judged j course held bytes v (λ c. StopSays Usage c x y) h is k
-says_read judged j course held bytes v (Program f d) x y h is k = on_read judged j course held bytes v (λ c. StopSays (Program f d) c x y) h is k
-says_read judged j course held bytes v (Script n d) x y h is k = on_read judged j course held bytes v (λ c. StopSays (Script n d) c x y) h is k
-says_read judged j course held bytes v (Evaluation t) x y h is k = on_read judged j course held bytes v (λ c. StopSays (Evaluation t) c x y) h is k
-says_read judged j course held bytes v Read x y h is k = each_of judged j course held (λ c. StopSays Read c x y) (on_read judged j course held bytes v (λ c. StopSays Read c x y) h is k)
-says_read judged j course held bytes v Write x y h is k = on_read judged j course held bytes v (λ c. StopSays Write c x y) h is k
-says_read judged j course held bytes v (Memory e) x y h is k = each_of judged j course held (λ c. StopSays (Memory e) c x y) (on_read judged j course held bytes v (λ c. StopSays (Memory e) c x y) h is k)
+pub each_of : (course : Verdict → Option Course) (held : Option (List ℕ)) (F : Course → Type 0) → OnJudged course held F → OnEachJudged course held F
+each_of course None F k = tt
+each_of course (Some bytes) F k = λ v is. subst (λ w. IfSome (course w) F) (verdict_is_one bytes k.0 v k.1 is) k.2
 
 -- an accepted program was read to its end
 pub read_accepted : (held : Option (List ℕ)) (bytes : List ℕ) (p : Core) (before now : Option ℕ)
@@ -61,41 +39,36 @@ read_accepted (Some file) bytes p before now h is k =
     subst (λ (b : List ℕ). ReachesFront before now (length b)) (h ∙ whole_front 1048576 file short) k
 
 -- a stop that says so of the course of the verdict on a text
-pub says_judged : {V : Type 0} (judged : List ℕ → V → Type 0) → Judging judged → (course : V → Option Course) (bytes : List ℕ) (v : V) (stop : Stop) (x y : Option (List ℕ))
-    → judged bytes v → IfSome (course v) (λ c. StopSays stop c x y)
-    → SaysOn stop (OnJudged judged course (Some bytes)) (OnEachJudged judged course (Some bytes)) x y
-says_judged judged j course bytes v Usage x y is k = (v, is, k)
-says_judged judged j course bytes v (Program f d) x y is k = (v, is, k)
-says_judged judged j course bytes v (Script n d) x y is k = (v, is, k)
-says_judged judged j course bytes v (Evaluation t) x y is k = (v, is, k)
-says_judged judged j course bytes v Read x y is k = each_of judged j course (Some bytes) (λ c. StopSays Read c x y) (v, is, k)
-says_judged judged j course bytes v Write x y is k = (v, is, k)
-says_judged judged j course bytes v (Memory e) x y is k = each_of judged j course (Some bytes) (λ c. StopSays (Memory e) c x y) (v, is, k)
+pub says_judged : (course : Verdict → Option Course) (bytes : List ℕ) (v : Verdict) (stop : Stop) (x y : Option (List ℕ)) → IsVerdict bytes v → IfSome (course v) (λ c. StopSays stop c x y)
+    → SaysOn stop (OnJudged course (Some bytes)) (OnEachJudged course (Some bytes)) x y
+says_judged course bytes v Usage x y is k = (v, is, k)
+says_judged course bytes v (Program f d) x y is k = (v, is, k)
+says_judged course bytes v (Script n d) x y is k = (v, is, k)
+says_judged course bytes v (Evaluation t) x y is k = (v, is, k)
+says_judged course bytes v Read x y is k = each_of course (Some bytes) (λ c. StopSays Read c x y) (v, is, k)
+says_judged course bytes v Write x y is k = (v, is, k)
+says_judged course bytes v (Memory e) x y is k = each_of course (Some bytes) (λ c. StopSays (Memory e) c x y) (v, is, k)
 
 -- what holds on the front of a file that was judged holds on the file
-pub judged_of_front : {V : Type 0} (judged : List ℕ → V → Type 0) → Judging judged → (course : V → Option Course) (held : Option (List ℕ)) (bytes : List ℕ) (F : Course → Type 0)
-    → IfSome held (λ file. bytes ≡ take 1048577 file) → OnJudged judged course (Some bytes) F → OnJudged judged course held F
-judged_of_front judged j course None bytes F h k = tt
-judged_of_front judged j course (Some file) bytes F h k = (k.0, j.front file k.0 (subst (λ b. judged b k.0) h k.1), k.2)
-
--- a file is judged as its front is
-abbrev pub FrontIsJudged : {V : Type 0} → (List ℕ → V → Type 0) → Type 0
-FrontIsJudged {V} judged = (bytes : List ℕ) (v : V) → judged bytes v → judged (take 1048577 bytes) v
+pub judged_of_front : (course : Verdict → Option Course) (held : Option (List ℕ)) (bytes : List ℕ) (F : Course → Type 0)
+    → IfSome held (λ file. bytes ≡ take 1048577 file) → OnJudged course (Some bytes) F → OnJudged course held F
+judged_of_front course None bytes F h k = tt
+judged_of_front course (Some file) bytes F h k = (k.0, judged_front file k.0 (subst (λ b. IsVerdict b k.0) h k.1), k.2)
 
 -- what holds on the front of a file, whatever that is judged to be, holds on the file
-pub each_of_front : {V : Type 0} (judged : List ℕ → V → Type 0) → FrontIsJudged judged → (course : V → Option Course) (held : Option (List ℕ)) (bytes : List ℕ) (F : Course → Type 0)
-    → IfSome held (λ file. bytes ≡ take 1048577 file) → OnEachJudged judged course (Some bytes) F → OnEachJudged judged course held F
-each_of_front judged back course None bytes F h k = tt
-each_of_front judged back course (Some file) bytes F h k = λ v is. k v (subst (λ b. judged b v) (sym h) (back file v is))
+pub each_of_front : (course : Verdict → Option Course) (held : Option (List ℕ)) (bytes : List ℕ) (F : Course → Type 0)
+    → IfSome held (λ file. bytes ≡ take 1048577 file) → OnEachJudged course (Some bytes) F → OnEachJudged course held F
+each_of_front course None bytes F h k = tt
+each_of_front course (Some file) bytes F h k = λ v is. k v (subst (λ b. IsVerdict b v) (sym h) (front_judged file v is))
 
 -- what a stop says on the front of a file it says on the file
-pub says_of_front : {V : Type 0} (judged : List ℕ → V → Type 0) → Judging judged → FrontIsJudged judged → (course : V → Option Course) (held : Option (List ℕ)) (bytes : List ℕ) (stop : Stop) (x y : Option (List ℕ))
-    → IfSome held (λ file. bytes ≡ take 1048577 file) → SaysOn stop (OnJudged judged course (Some bytes)) (OnEachJudged judged course (Some bytes)) x y
-    → SaysOn stop (OnJudged judged course held) (OnEachJudged judged course held) x y
-says_of_front judged j back course held bytes Usage x y h k = judged_of_front judged j course held bytes (λ c. StopSays Usage c x y) h k
-says_of_front judged j back course held bytes (Program f d) x y h k = judged_of_front judged j course held bytes (λ c. StopSays (Program f d) c x y) h k
-says_of_front judged j back course held bytes (Script n d) x y h k = judged_of_front judged j course held bytes (λ c. StopSays (Script n d) c x y) h k
-says_of_front judged j back course held bytes (Evaluation t) x y h k = judged_of_front judged j course held bytes (λ c. StopSays (Evaluation t) c x y) h k
-says_of_front judged j back course held bytes Read x y h k = each_of_front judged back course held bytes (λ c. StopSays Read c x y) h k
-says_of_front judged j back course held bytes Write x y h k = judged_of_front judged j course held bytes (λ c. StopSays Write c x y) h k
-says_of_front judged j back course held bytes (Memory e) x y h k = each_of_front judged back course held bytes (λ c. StopSays (Memory e) c x y) h k
+pub says_of_front : (course : Verdict → Option Course) (held : Option (List ℕ)) (bytes : List ℕ) (stop : Stop) (x y : Option (List ℕ))
+    → IfSome held (λ file. bytes ≡ take 1048577 file) → SaysOn stop (OnJudged course (Some bytes)) (OnEachJudged course (Some bytes)) x y
+    → SaysOn stop (OnJudged course held) (OnEachJudged course held) x y
+says_of_front course held bytes Usage x y h k = judged_of_front course held bytes (λ c. StopSays Usage c x y) h k
+says_of_front course held bytes (Program f d) x y h k = judged_of_front course held bytes (λ c. StopSays (Program f d) c x y) h k
+says_of_front course held bytes (Script n d) x y h k = judged_of_front course held bytes (λ c. StopSays (Script n d) c x y) h k
+says_of_front course held bytes (Evaluation t) x y h k = judged_of_front course held bytes (λ c. StopSays (Evaluation t) c x y) h k
+says_of_front course held bytes Read x y h k = each_of_front course held bytes (λ c. StopSays Read c x y) h k
+says_of_front course held bytes Write x y h k = judged_of_front course held bytes (λ c. StopSays Write c x y) h k
+says_of_front course held bytes (Memory e) x y h k = each_of_front course held bytes (λ c. StopSays (Memory e) c x y) h k

@@ -10,8 +10,8 @@ use Rattle.fr_expand.specs.declared.refusal.Refusal.{Refusal as FormRefusal}
 use Rattle.fr_expand.specs.Expansion.{IsExpansion}
 use Rattle.fr_expand.proofs.OneExpansion.{expansion_is_one}
 use Rattle.fr_show.specs.declared.stop.ProgramKind.{ProgramKind}
-use Rattle.fr_show.specs.declared.stop.ProgramKind.TheVariants.{Length, Text, Form, Name, Unbound, Twice, Handler, Nesting, Unbuilt}
-use Rattle.fr_show.specs.Accepted.{IsForms, IsProgram, Cause, long, unread, refused, none, cause_of, IsRefusedFor, IsVerdict, Verdict, Refusal}
+use Rattle.fr_show.specs.declared.stop.ProgramKind.TheVariants.{Length, Text, Form, Name, Unbound, Twice, Handler, Nesting}
+use Rattle.fr_show.specs.Accepted.{IsForms, IsProgram, Cause, long, unread, refused, cause_of, IsRefusedFor, IsVerdict, Verdict, Refusal}
 
 -- the forms of a text expand in one way
 expands_one : (bytes : List ℕ) (f g : List Datum) (v w : Result Program FormRefusal) → IsForms bytes f → IsForms bytes g → IsExpansion f v → IsExpansion g w → v ≡ w
@@ -35,7 +35,6 @@ not_refused bytes p form long h k = omega (arith, h.read.short, k.1)
 not_refused bytes p form unread h k = k.1.none h.forms h.read.reads
 not_refused bytes p form (refused c) h k =
     let e : Path (Result Program FormRefusal) (Ok p) (Err (record { form = form; kind = c })) = expands_one bytes h.forms k.forms _ _ h.read k.read h.expands k.refused in cc
-not_refused bytes p form none h k = k
 
 -- a text that doesn't read is refused at one form
 form_is_one : (bytes : List ℕ) (n m : ℕ) → IsRefused bytes n → IsRefused bytes m → n ≡ m
@@ -49,19 +48,15 @@ refused_one : (bytes : List ℕ) (n m : ℕ) (c d : Cause) → IsRefusedFor byte
 refused_one bytes n m long long h k = (h.0 ∙ sym k.0, refl)
 refused_one bytes n m long unread h k = absurd (omega (arith, h.1, k.0))
 refused_one bytes n m long (refused d) h k = absurd (omega (arith, h.1, k.read.short))
-refused_one bytes n m long none h k = absurd k
 refused_one bytes n m unread long h k = absurd (omega (arith, h.0, k.1))
 refused_one bytes n m unread unread h k = (form_is_one bytes n m h.1 k.1, refl)
 refused_one bytes n m unread (refused d) h k = absurd (h.1.none k.forms k.read.reads)
-refused_one bytes n m unread none h k = absurd k
 refused_one bytes n m (refused c) long h k = absurd (omega (arith, h.read.short, k.1))
 refused_one bytes n m (refused c) unread h k = absurd (k.1.none h.forms h.read.reads)
 refused_one bytes n m (refused c) (refused d) h k =
     let r : FormRefusal = record { form = n; kind = c } in
     let e = ap (refusal_in r) (expands_one bytes h.forms k.forms (Err r) (Err (record { form = m; kind = d })) h.read k.read h.refused k.refused) in
     (ap (λ (s : FormRefusal). s.form) e, ap (λ (s : FormRefusal). refused s.kind) e)
-refused_one bytes n m (refused c) none h k = absurd k
-refused_one bytes n m none d h k = absurd h
 
 -- the kind that tells of a cause
 abbrev kind_for : Cause → ProgramKind
@@ -73,7 +68,6 @@ kind_for (refused form_kind.Unbound) = Unbound
 kind_for (refused form_kind.Twice) = Twice
 kind_for (refused form_kind.Handler) = Handler
 kind_for (refused form_kind.Nesting) = Nesting
-kind_for none = Unbuilt
 
 kind_back : (k : ProgramKind) → kind_for (cause_of k) ≡ k
 kind_back Length = refl
@@ -84,7 +78,6 @@ kind_back Unbound = refl
 kind_back Twice = refl
 kind_back Handler = refl
 kind_back Nesting = refl
-kind_back Unbuilt = refl
 
 same_kind : (k l : ProgramKind) → cause_of k ≡ cause_of l → k ≡ l
 same_kind k l e = sym (kind_back k) ∙ ap kind_for e ∙ kind_back l
@@ -111,7 +104,6 @@ pub refused_front : (bytes : List ℕ) (form : ℕ) (c : Cause) → IsRefusedFor
 refused_front bytes form long h = (h.0, omega (arith, length-take 1048577 bytes, h.1))
 refused_front bytes form unread h = on_whole bytes (λ b. IsRefusedFor b form unread) h.0 h
 refused_front bytes form (refused c) h = on_whole bytes (λ b. IsRefusedFor b form (refused c)) h.read.short h
-refused_front bytes form none h = h
 
 -- the first 1,048,577 bytes are judged as the whole
 pub judged_front : (bytes : List ℕ) (v : Verdict) → IsVerdict (take 1048577 bytes) v → IsVerdict bytes v
@@ -125,7 +117,6 @@ refused_back : (bytes : List ℕ) (form : ℕ) (c : Cause) → IsRefusedFor byte
 refused_back bytes form long h = (h.0, omega (arith, length-take 1048577 bytes, h.1))
 refused_back bytes form unread h = on_front bytes (λ b. IsRefusedFor b form unread) h.0 h
 refused_back bytes form (refused c) h = on_front bytes (λ b. IsRefusedFor b form (refused c)) h.read.short h
-refused_back bytes form none h = h
 
 -- the whole is judged as its first 1,048,577 bytes
 pub front_judged : (bytes : List ℕ) (v : Verdict) → IsVerdict bytes v → IsVerdict (take 1048577 bytes) v

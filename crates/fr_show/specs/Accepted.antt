@@ -41,9 +41,8 @@ pub data Cause : Type 0 where
   long : Cause
   unread : Cause
   refused : Kind → Cause
-  none : Cause
 
--- the cause that a kind tells of; a whole text is never refused as unbuilt
+-- the cause that a kind tells of
 abbrev pub cause_of : ProgramKind → Cause
 cause_of kind.Length = long
 cause_of kind.Text = unread
@@ -53,14 +52,12 @@ cause_of kind.Unbound = refused form_kind.Unbound
 cause_of kind.Twice = refused form_kind.Twice
 cause_of kind.Handler = refused form_kind.Handler
 cause_of kind.Nesting = refused form_kind.Nesting
-cause_of kind.Unbuilt = none
 
 -- a text is refused for its length, else at the form from which on it doesn't read, else as its forms are
 abbrev pub IsRefusedFor : List ℕ → ℕ → Cause → Type 0
 IsRefusedFor bytes form long = (form ≡ 0) × (1048576 < length bytes)
 IsRefusedFor bytes form unread = (length bytes ≤ 1048576) × IsRefused bytes form
 IsRefusedFor bytes form (refused k) = IsNoProgram bytes form k
-IsRefusedFor bytes form none = ⊥
 
 abbrev pub IsRefusedAs : List ℕ → ℕ → ProgramKind → Type 0
 IsRefusedAs bytes form k = IsRefusedFor bytes form (cause_of k)
@@ -71,11 +68,11 @@ IsVerdict bytes (Ok p) = IsProgram bytes p
 IsVerdict bytes (Err r) = IsRefusedAs bytes r.form r.kind
 
 -- a file is judged, and the fact holds of the course that the verdict leads to, where what is told settles it
-abbrev pub OnJudged : {V : Type 0} → (List ℕ → V → Type 0) → (V → Option Course) → Option (List ℕ) → (Course → Type 0) → Type 0
-OnJudged {V} judged course None F = Unit {0}
-OnJudged {V} judged course (Some bytes) F = (v : V) × judged bytes v × IfSome (course v) F
+abbrev pub OnJudged : (Verdict → Option Course) → Option (List ℕ) → (Course → Type 0) → Type 0
+OnJudged course None F = Unit {0}
+OnJudged course (Some bytes) F = (v : Verdict) × IsVerdict bytes v × IfSome (course v) F
 
 -- the same where the file may not have been judged: whatever it is judged to be, the fact holds of the course
-abbrev pub OnEachJudged : {V : Type 0} → (List ℕ → V → Type 0) → (V → Option Course) → Option (List ℕ) → (Course → Type 0) → Type 0
-OnEachJudged {V} judged course None F = Unit {0}
-OnEachJudged {V} judged course (Some bytes) F = (v : V) → judged bytes v → IfSome (course v) F
+abbrev pub OnEachJudged : (Verdict → Option Course) → Option (List ℕ) → (Course → Type 0) → Type 0
+OnEachJudged course None F = Unit {0}
+OnEachJudged course (Some bytes) F = (v : Verdict) → IsVerdict bytes v → IfSome (course v) F

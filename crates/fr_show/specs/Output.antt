@@ -11,7 +11,6 @@ use Rattle.fr_meaning.specs.Texts.{Shown, instant_text, next_each}
 use Rattle.fr_meaning.specs.Afresh.{State, Instant, beginning, first_instant, handed_on, instant}
 use Rattle.fr_show.specs.declared.stop.Stop.{Stop}
 use Rattle.fr_show.specs.declared.stop.Stop.TheVariants as stop
-use Rattle.fr_show.specs.declared.stop.ScriptKind.TheVariants as script_kind
 use Rattle.fr_show.specs.Accepted.{Verdict}
 use Rattle.fr_show.specs.Course.{Course, stopped, after}
 
@@ -39,7 +38,7 @@ over_instants p end s shows (i ∷ is) = onward i.time shows (instant p s i) (λ
 -- the end that a script's first bad line makes, if there is one
 abbrev pub script_end : Option BadLine → Option Stop
 script_end None = None
-script_end (Some b) = Some (stop.Script b.0 (script_kind.Line b.1))
+script_end (Some b) = Some (stop.Script b.0 b.1)
 
 -- the course of a program over a script so far: instant 0, and then the script's whole instants
 abbrev pub program_course : Program → List ℕ → Bool → Course

@@ -9,4 +9,4 @@ mod stop;
 pub use acceptance::{AcceptStop, PROGRAM_LIMIT, accept, program_of, read_forms};
 pub use laws::{front_decides, verdict_is_one};
 pub use shows::Shows;
-pub use stop::{ProgramKind, ScriptKind, Stop};
+pub use stop::{ProgramKind, Stop};

@@ -20,17 +20,6 @@ pub enum ProgramKind {
     Handler,
     /// An expression nests above 500.
     Nesting,
-    /// The program is accepted, but `run` can't run it today. The form is 0.
-    Unbuilt,
-}
-
-/// Why a script is refused.
-#[derive(Clone, Copy, Debug, PartialEq, Eq)]
-pub enum ScriptKind {
-    /// The line is bad.
-    Line(LineKind),
-    /// The script isn't of the form that `run` can read today. The line is 0.
-    Unbuilt,
 }
 
 /// Why a command stopped before its end.
@@ -40,8 +29,8 @@ pub enum Stop {
     Usage,
     /// The program is refused at this form, counted from 1; form 0 is the text as a whole.
     Program { form: u32, kind: ProgramKind },
-    /// The script is refused at this line, counted from 1; line 0 is the script as a whole.
-    Script { line: u64, kind: ScriptKind },
+    /// The script is refused at this line, counted from 1.
+    Script { line: u64, kind: LineKind },
     /// The instant of this time errs.
     Evaluation(u64),
     /// A file couldn't be read.

@@ -1,8 +1,6 @@
-use Rattle.std.proofs.Common.{subst, sym}
+use Rattle.std.proofs.Common.{subst}
 use Rattle.fr_script.specs.declared.turn.Turn.{Turn}
 use Rattle.fr_script.specs.Stands.{left, Falls}
-use Rattle.fr_show.specs.declared.stop.Stop.{Stop}
-use Rattle.fr_run.specs.Scripts.{EndsAt}
 use Rattle.fr_run.proofs.Readers.{Tells, gives_instant, gives_more, gives_end, ends_bad}
 use Rattle.fr_run.proofs.turns.next_instant.Goals as goal
 
@@ -27,6 +25,5 @@ returns-in-Ok-End-clause-ok c =
 
 pub returns-in-Ok-Refused-clause-err : goal.returns-in-Ok-Refused-clause-err
 returns-in-Ok-Refused-clause-err c =
-    let ends = ends_bad c.args.reader.now c.next.new.self c.in-Ok-Refused.line c.in-Ok-Refused.kind
-    (subst (λ (t : Turn). Tells c.args.reader.now c.next.new.self t) c.in-Ok-Refused.field-0-is c.in-Ok-Refused.ensures.ok) in
-    λ ss script given fed. subst (λ (s : Stop). EndsAt s ss script given) (sym c.refused.ensures) (ends ss script given fed)
+    ends_bad c.args.reader.now c.next.new.self c.in-Ok-Refused.line c.in-Ok-Refused.kind
+    (subst (λ (t : Turn). Tells c.args.reader.now c.next.new.self t) c.in-Ok-Refused.field-0-is c.in-Ok-Refused.ensures.ok)

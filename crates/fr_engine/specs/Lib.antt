@@ -1,6 +1,0 @@
-pub mod Made
-pub mod Nodes
-pub mod Numbers
-pub mod Running
-pub mod RunningCode
-pub mod Shows

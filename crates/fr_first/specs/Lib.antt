@@ -1,4 +1,0 @@
-pub mod Parts
-pub mod Course
-pub mod Sums
-pub mod Stops

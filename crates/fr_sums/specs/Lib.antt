@@ -1,8 +1,0 @@
-pub mod Words
-pub mod Prims
-pub mod Eval
-pub mod Texts
-pub mod Afresh
-pub mod Names
-pub mod Script
-pub mod Forms
