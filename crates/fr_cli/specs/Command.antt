@@ -1,25 +1,25 @@
 -- The commands: what words ask for each, which files it reads, what it does, and how it may end.
-use Rattle.std.specs.Prelude.{ℕ, ◌≡◌, ◌≢◌, ◌&&◌, length, IfSome, ◌==◌, not, Bool, true, false, IsTrue, if◌then◌else◌, List, [], ◌∷◌, Option, Some, None, Ok, Err, codes, ◌⊎◌}
+use Rattle.std.specs.Prelude.{ℕ, ◌≡◌, ◌&&◌, ◌==◌, not, Bool, true, false, IsTrue, if◌then◌else◌, List, [], ◌∷◌, length, map, Option, Some, None, IfSome, Ok, Err, codes, ◌⊎◌, String, string_bytes}
+use Rattle.std.specs.declared.alloc.Global.{Global}
 use Rattle.std.specs.Str.{bytes_eq}
-use Rattle.fr_io.specs.Faults.{Rose}
+use Rattle.std.specs.Io.KnownBytes.{Appends}
+use Rattle.fr_io.specs.Faults.{Rose, AnyRose}
 use Rattle.fr_io.specs.Files.{ReachesFront}
+use Rattle.fr_io.specs.Shelves.{Holds, Reached, Faults}
 use Rattle.fr_show.specs.declared.stop.Stop.TheVariants.{Usage, Program}
 use Rattle.fr_show.specs.Course.{Course, stopped}
 use Rattle.fr_show.specs.Accepted.{Verdict, OnJudged, OnEachJudged}
+use Rattle.fr_show.specs.Ends.{Begins}
 use Rattle.fr_show.specs.Output.{course_over}
 
--- what a shelf tells of each file's content
-abbrev pub Told : Type 0
-Told = List ℕ → Option (List ℕ)
-
--- a command: its word, the names of its program's file and of those behind it, its course by what is told of these and by
--- what the program is judged to be, the statuses that it may answer, and whether it writes nothing where it stops, but for
--- a write fault
+-- a command: its word, the names of its program's file and of those behind it, its course by what is told of
+-- these and by what the program is judged to be, the statuses that it may answer, and whether it writes nothing
+-- where it stops, but for a write fault
 pub record Command : Type 0 where
   pub word : List ℕ
   pub program : List ℕ
   pub behind : List (List ℕ)
-  pub course : Told → Verdict → Option Course
+  pub course : Holds → Verdict → Option Course
   pub statuses : List ℕ
   pub quiet : Bool
 
@@ -75,48 +75,47 @@ names_file (b ∷ bs) = not (b == 45)
 -- the command that the words are: a command's word, and then the names of its files
 abbrev pub command_of : List (List ℕ) → Option Command
 command_of (word ∷ program ∷ script ∷ []) =
-    if names_file program && names_file script then asked_for word (over_two program script) else None
-command_of (word ∷ program ∷ []) = if names_file program then asked_for word (over_one program) else None
+    if names_file program && names_file script then asked_for word (over_two program script)
+    else None
+command_of (word ∷ program ∷ []) =
+    if names_file program then asked_for word (over_one program) else None
 command_of _ = None
 
+-- the command that the words of a command line ask for
+abbrev pub asked : List (String Global) → Option Command
+asked words = command_of (map string_bytes words)
+
 -- the fact holds of the course of a command, where what the shelf tells of its files settles it
-abbrev pub OnCommand : Option Command → Told → (Course → Type 0) → Type 0
+abbrev pub OnCommand : Option Command → Holds → (Course → Type 0) → Type 0
 OnCommand None holds F = F (stopped (Some Usage))
 OnCommand (Some c) holds F = OnJudged (c.course holds) (holds c.program) F
 
 -- the same where the program's file may not have been judged
-abbrev pub OnEachCommand : Option Command → Told → (Course → Type 0) → Type 0
+abbrev pub OnEachCommand : Option Command → Holds → (Course → Type 0) → Type 0
 OnEachCommand None holds F = F (stopped (Some Usage))
 OnEachCommand (Some c) holds F = OnEachJudged (c.course holds) (holds c.program) F
-
--- the same two of the words
-abbrev pub OnWords : List (List ℕ) → Told → (Course → Type 0) → Type 0
-OnWords words holds F = OnCommand (command_of words) holds F
-
-abbrev pub OnEachWords : List (List ℕ) → Told → (Course → Type 0) → Type 0
-OnEachWords words holds F = OnEachCommand (command_of words) holds F
-
--- a file was read to its end, where that is told
-abbrev pub ReadWhole : Told → (List ℕ → Option ℕ) → (List ℕ → Option ℕ) → List ℕ → Type 0
-ReadWhole holds before now name = IfSome (holds name) (λ file. ReachesFront (before name) (now name) (length file))
-
--- the file behind a program's was read to its end, where it is another file; where there is none, the program's was
-abbrev pub ReadsBehind : List ℕ → List (List ℕ) → (List ℕ → Type 0) → Type 0
-ReadsBehind program [] whole = whole program
-ReadsBehind program (name ∷ names) whole = name ≢ program → whole name
-
-abbrev pub ReadsToEnd : Option Command → Told → (List ℕ → Option ℕ) → (List ℕ → Option ℕ) → Type 0
-ReadsToEnd None holds before now = Unit {0}
-ReadsToEnd (Some c) holds before now = ReadsBehind c.program c.behind (ReadWhole holds before now)
 
 -- the files that a command names
 abbrev pub files_in : Option Command → List (List ℕ)
 files_in None = []
 files_in (Some c) = c.program ∷ c.behind
 
--- the files that the words name
-abbrev pub files_of : List (List ℕ) → List (List ℕ)
-files_of words = files_in (command_of words)
+-- each of these files was read to its end, where that is told
+abbrev pub AllRead : List (List ℕ) → Holds → Reached → Reached → Type 0
+AllRead [] holds before now = Unit {0}
+AllRead (f ∷ fs) holds before now =
+    IfSome (holds f) (λ file. ReachesFront (before f) (now f) (length file))
+    × AllRead fs holds before now
+
+-- a file couldn't be read: the program's, and nothing was written; or one behind it, and of an accepted program,
+-- whose instant 0 doesn't err, exactly the text of instant 0 was, whatever the files behind hold
+abbrev pub FailsToRead : Option Command → Holds → Faults → Faults
+    → Option (List ℕ) → Option (List ℕ) → Type 0
+FailsToRead None holds before now old new = ⊥
+FailsToRead (Some c) holds before now old new =
+    (Rose (before c.program) (now c.program) × Appends old new [])
+    ⊎ (AnyRose c.behind before now
+    × ((any : Holds) → OnJudged (c.course any) (holds c.program) (λ d. Begins d old new)))
 
 abbrev pub IsAmong : ℕ → List ℕ → Type 0
 IsAmong n [] = ⊥
@@ -131,8 +130,3 @@ Answers (Some c) status = IsAmong status c.statuses
 abbrev pub IsQuiet : Option Command → Type 0
 IsQuiet None = Unit {0}
 IsQuiet (Some c) = IsTrue c.quiet
-
--- the count of one of these files rose
-abbrev pub AnyRose : List (List ℕ) → (List ℕ → ℕ) → (List ℕ → ℕ) → Type 0
-AnyRose [] before now = ⊥
-AnyRose (f ∷ fs) before now = Rose (before f) (now f) ⊎ AnyRose fs before now

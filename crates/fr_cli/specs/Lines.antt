@@ -1,5 +1,5 @@
 -- The status and the line of each stop.
-use Rattle.std.specs.Prelude.{◌≡◌, ℕ, List, ◌++◌, Option, Some, None, codes, decimal}
+use Rattle.std.specs.Prelude.{◌≡◌, ◌≤◌, ◌⊎◌, ℕ, List, ◌++◌, Option, Some, None, codes, decimal}
 use Rattle.std.specs.Io.KnownBytes.{Appends}
 use Rattle.fr_io.specs.Faults.{Rose}
 use Rattle.fr_io.specs.Files.{AppendsSome}
@@ -9,7 +9,8 @@ use Rattle.fr_show.specs.declared.stop.ProgramKind.{ProgramKind}
 use Rattle.fr_show.specs.declared.stop.ProgramKind.TheVariants as program_kind
 use Rattle.fr_script.specs.declared.turn.LineKind.{LineKind}
 use Rattle.fr_script.specs.declared.turn.LineKind.TheVariants as line_kind
-use Rattle.fr_cli.specs.Command.{Told, OnWords, OnEachWords}
+use Rattle.fr_io.specs.Shelves.{Holds}
+use Rattle.fr_cli.specs.Command.{Command, OnCommand, OnEachCommand}
 use Rattle.fr_show.specs.Ends.{SaysOn}
 
 abbrev pub status_of : Stop → ℕ
@@ -59,14 +60,16 @@ line_of Read = codes "read fault\n"
 line_of Write = codes "write fault\n"
 line_of (Memory e) = codes "no memory\n"
 
--- some first bytes of the line were appended, and all of it where the count didn't rise
-pub record Tells (line : List ℕ) (old new : Option (List ℕ)) (before now : ℕ) : Type 0 where
-  pub some : AppendsSome old new line
-  pub whole : (Rose before now → ⊥) → Appends old new line
+-- the line was appended whole, and the count stays; or some first bytes of it were, but not all, and it rose
+abbrev pub Tells : List ℕ → Option (List ℕ) → Option (List ℕ) → ℕ → ℕ → Type 0
+Tells line old new before now =
+    (Appends old new line × (now ≡ before))
+    ⊎ (AppendsSome old new line × (before ≤ now) × Rose before now)
 
--- what a status other than 0 stands for: a stop, what it says of the course of the words, and its line
-pub record Stopped (status : ℕ) (words : List (List ℕ)) (holds : Told) (out_old out_new err_old err_new : Option (List ℕ)) (before now : ℕ) : Type 0 where
+-- what a status other than 0 stands for: a stop, what it says of the course of a command, and its line
+pub record Stopped (status : ℕ) (w : Option Command) (holds : Holds)
+    (old new err_old err_new : Option (List ℕ)) (before now : ℕ) : Type 0 where
   pub stop : Stop
   pub status_is : status ≡ status_of stop
-  pub says : SaysOn stop (OnWords words holds) (OnEachWords words holds) out_old out_new
+  pub says : SaysOn stop (OnCommand w holds) (OnEachCommand w holds) old new
   pub line : Tells (line_of stop) err_old err_new before now

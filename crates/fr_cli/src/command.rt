@@ -1,6 +1,6 @@
-ghost use Rattle.std.specs.Prelude.{◌≡◌, map, string_bytes};
+ghost use Rattle.std.specs.Prelude.{◌≡◌};
 ghost use Rattle.std.specs.Option.{option_map};
-ghost use Rattle.fr_cli.specs.Command.{command_of, names_file, asked_for, over_one, over_two};
+ghost use Rattle.fr_cli.specs.Command.{asked, names_file, asked_for, over_one, over_two};
 ghost use Rattle.fr_cli.specs.Told.{told};
 
 /// What the words ask for, with the files that they name.
@@ -47,7 +47,7 @@ fn over_program<'a>(word: &str, program: &'a str) -> Option<Request<'a>>
 
 /// What the words ask for, or none where they are no command.
 pub fn request_of(words: &[String]) -> Option<Request<'_>>
-    ensures { option_map told result ≡ command_of (map string_bytes words.now) }
+    ensures { option_map told result ≡ asked words.now }
 {
     match words {
         [word, program, script] if names_file(program.as_str()) && names_file(script.as_str()) => {

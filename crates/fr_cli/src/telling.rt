@@ -1,8 +1,9 @@
-ghost use Rattle.std.specs.Prelude.{◌≡◌, ◌≤◌, ◌++◌, OnOk, OnErr, decimal};
+ghost use Rattle.std.specs.Prelude.{◌≡◌, ◌++◌, OnOk, OnErr, IsErr, decimal};
 ghost use Rattle.std.specs.Io.KnownBytes.{Appends};
-ghost use Rattle.fr_io.specs.Faults.{Rose};
+ghost use Rattle.fr_io.specs.Faults.{Counts};
 ghost use Rattle.fr_io.specs.Files.{AppendsSome};
-ghost use Rattle.fr_cli.specs.Lines.{status_of, line_of, refusal_end, program_word, line_word, Tells};
+ghost use Rattle.fr_cli.specs.Lines.{status_of, line_of, refusal_end, program_word, line_word};
+ghost use Rattle.fr_cli.specs.Lines.{Tells};
 
 use fr_io::{Failed, Sink, write_all};
 use fr_script::LineKind;
@@ -26,8 +27,8 @@ pub fn status(stop: &Stop) -> u8
 
 /// Writes the line of a stop, as far as that goes. It asks for no memory, so that only a fault can cut the line.
 pub fn tell<E: Sink>(stop: &Stop, err: &mut E)
-    ensures line { Tells (line_of stop.now) (E.written err.old) (E.written err.new) (E.faults err.old) (E.faults err.new) }
-    ensures counts { E.faults err.old ≤ E.faults err.new }
+    ensures { Tells (line_of stop.now) (E.written err.old) (E.written err.new)
+        (E.faults err.old) (E.faults err.new) }
 {
     let _ = write_line(stop, err);
 }
@@ -37,8 +38,7 @@ pub fn tell<E: Sink>(stop: &Stop, err: &mut E)
 fn write_line<E: Sink>(stop: &Stop, err: &mut E) -> Result<(), Failed>
     ensures ok { OnOk result (Appends (E.written err.old) (E.written err.new) (line_of stop.now)) }
     ensures err { OnErr result (AppendsSome (E.written err.old) (E.written err.new) (line_of stop.now)) }
-    ensures counts { E.faults err.old ≤ E.faults err.new }
-    ensures cause { OnErr result (Rose (E.faults err.old) (E.faults err.new)) }
+    ensures counts { Counts (IsErr result) (E.faults err.old) (E.faults err.new) }
 {
     match stop {
         Stop::Program { form, kind } => {
@@ -69,8 +69,7 @@ fn write_place<E: Sink>(
 ) -> Result<(), Failed>
     ensures ok { OnOk result (Appends (E.written err.old) (E.written err.new) (before.now ++ decimal number ++ behind.now)) }
     ensures err { OnErr result (AppendsSome (E.written err.old) (E.written err.new) (before.now ++ decimal number ++ behind.now)) }
-    ensures counts { E.faults err.old ≤ E.faults err.new }
-    ensures cause { OnErr result (Rose (E.faults err.old) (E.faults err.new)) }
+    ensures counts { Counts (IsErr result) (E.faults err.old) (E.faults err.new) }
 {
     let mut buffer = Buffer::new();
     match write_all(err, before) {

@@ -1,36 +1,17 @@
-use Rattle.std.proofs.Common.{◌≡◌, ◌∙◌, ◌≢◌, ◌<◌, ℕ, Bool, true, false, not, cond, nat_lt, List, [], ◌∷◌, length, get_or, set, ap, sym, subst, refl, arith, Some, None, Vec, String, get_or-set_other}
+use Rattle.std.proofs.Common.{◌≡◌, ◌∙◌, ◌≢◌, ◌<◌, ℕ, List, [], ◌∷◌, length, get_or, set, ap, sym, refl, arith, Some, None, IfSome, unwrap_or, Vec, String, get_or-set_other}
 use Rattle.std.specs.declared.option.Option.{Option}
 use Rattle.std.specs.declared.alloc.Global.{Global}
 use Rattle.std.specs.Option.{option_map}
-use Rattle.std.specs.List.{position, prefix_len}
-use Rattle.std.proofs.lemmas.Bool.Decides.{nat_tests}
 use Rattle.std.proofs.lemmas.Slice.Eq.{bytes_eq-Decides}
-use Rattle.std.proofs.lemmas.List.Sums.{prefix_len_stops}
-use Rattle.fr_io.specs.NamedFiles.{is_named, place, number_of}
-
-passes : (b : Bool) → not b ≡ false → b ≡ true
-passes true h = refl
-passes false h = absurd (cc)
-
-first_passes : {X : Type 0} (p : X → Bool) (xs : List X) (d : X) (n i : ℕ) (b : Bool) → n ≡ prefix_len (λ x. not (p x)) xs → b ≡ nat_lt n (length xs)
-    → cond b (Some n) None ≡ Some i → p (get_or xs i d) ≡ true
-first_passes p xs d n i false is test h = absurd (cc)
-first_passes p xs d n i true is test h =
-    let same : n ≡ i = cc in
-    let lt : prefix_len (λ x. not (p x)) xs < length xs = grind (arith, nat_tests, is, test) in
-    let stops = prefix_len_stops (λ x. not (p x)) xs d lt in
-    subst (λ (k : ℕ). p (get_or xs k d) ≡ true) (sym is ∙ same) (passes _ stops)
-
--- the element at the position found passes the test
-position-passes : {X : Type 0} (p : X → Bool) (xs : List X) (d : X) (i : ℕ) → position p xs ≡ Some i → p (get_or xs i d) ≡ true
-position-passes p xs d i h = first_passes p xs d _ i _ refl refl h
+use Rattle.std.proofs.lemmas.List.Quantifiers.{position-Some}
+use Rattle.fr_io.specs.NamedFiles.{is_named, place, bytes_at, file_of, number_of}
 
 -- two names whose first file is the same are one
 pub one_name : (files : List (String Global × Vec ℕ Global)) (a b : List ℕ) (i : ℕ) → place files a ≡ Some i → place files b ≡ Some i → a ≡ b
 one_name [] a b i at_a at_b = absurd (cc)
 one_name (f ∷ fs) a b i at_a at_b =
-    let named_a = position-passes (is_named a) (f ∷ fs) f i at_a in
-    let named_b = position-passes (is_named b) (f ∷ fs) f i at_b in
+    let named_a = (position-Some (is_named a) (f ∷ fs) i f at_a).1 in
+    let named_b = (position-Some (is_named b) (f ∷ fs) i f at_b).1 in
     sym ((bytes_eq-Decides _ a).0 named_a) ∙ (bytes_eq-Decides _ b).0 named_b
 
 elsewhere : (at : Option ℕ) (numbers : List ℕ) (i v : ℕ) → ((j : ℕ) → at ≡ Some j → j ≢ i)
@@ -46,3 +27,26 @@ number_of-other files new_files numbers new_numbers name other i v same_files is
     ap (λ (fs : List (String Global × Vec ℕ Global)). number_of fs new_numbers other) same_files
     ∙ ap (λ (ns : List ℕ). number_of files ns other) is_set
     ∙ elsewhere (place files other) numbers i v (λ j at_other same. differs (one_name files other name i (at_other ∙ ap Some same) found))
+
+-- the file of another name stands elsewhere than the count of a name, which may have no file
+apart : (files : List (String Global × Vec ℕ Global)) (name other : List ℕ) (j : ℕ) (o : Option ℕ) → place files name ≡ o → place files other ≡ Some j → other ≢ name
+    → j ≢ unwrap_or o (length files)
+apart files name other j (Some i) at_name at_other differs same = differs (one_name files other name i (at_other ∙ ap Some same) at_name)
+apart [] name other j None at_name at_other differs same = absurd (cc)
+apart (f ∷ fs) name other j None at_name at_other differs same =
+    let within : j < length (f ∷ fs) = (position-Some (is_named other) (f ∷ fs) j f at_other).0 in omega arith
+
+count_at : (files : List (String Global × Vec ℕ Global)) (counts : List ℕ) (name other : List ℕ) (v : ℕ) (o : Option ℕ) → place files other ≡ o → other ≢ name
+    → let at = unwrap_or (place files name) (length files) in
+    IfSome (option_map (bytes_at files) o) (λ _. get_or (set counts at v) (unwrap_or o (length files)) 0 ≡ get_or counts (unwrap_or o (length files)) 0)
+count_at files counts name other v None at_other differs = tt
+count_at files counts name other v (Some j) at_other differs =
+    let ne : j ≢ unwrap_or (place files name) (length files) = apart files name other j (place files name) refl at_other differs in
+    get_or-set_other counts (unwrap_or (place files name) (length files)) j v 0 ne
+
+-- a count that is set for one name leaves that of each other name that has a file
+pub count_of-other : (files new_files : List (String Global × Vec ℕ Global)) (counts new_counts : List ℕ) (name other : List ℕ) (v : ℕ)
+    → new_files ≡ files → new_counts ≡ set counts (unwrap_or (place files name) (length files)) v → other ≢ name
+    → IfSome (file_of files other) (λ _. get_or new_counts (unwrap_or (place new_files other) (length new_files)) 0 ≡ get_or counts (unwrap_or (place files other) (length files)) 0)
+count_of-other files new_files counts new_counts name other v same is_set differs =
+    rw (same, is_set) (count_at files counts name other v (place files other) refl differs)

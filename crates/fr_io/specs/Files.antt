@@ -17,6 +17,6 @@ Reaches before now position n = IfSome before (λ r. now ≡ Some (if n == 0 the
 abbrev pub ReachesFront : Option ℕ → Option ℕ → ℕ → Type 0
 ReachesFront before now n = IfSome before (λ r. now ≡ Some (max r n))
 
--- some first bytes of these were appended, where that is told
+-- some first bytes of these were appended, but not all of them, where that is told
 abbrev pub AppendsSome : Option (List ℕ) → Option (List ℕ) → List ℕ → Type 0
-AppendsSome old new bytes = (n : ℕ) × (n ≤ length bytes) × Appends old new (take n bytes)
+AppendsSome old new bytes = (n : ℕ) × (n < length bytes) × Appends old new (take n bytes)

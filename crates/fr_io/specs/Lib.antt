@@ -4,4 +4,5 @@ pub mod MemShelf
 pub mod MemSink
 pub mod NamedFiles
 pub mod Real
+pub mod Shelves
 pub mod SureShelf

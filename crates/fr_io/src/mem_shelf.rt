@@ -1,5 +1,5 @@
 // A shelf in memory whose reads can be made to fail.
-ghost use Rattle.std.specs.Prelude.{◌≡◌, ◌≢◌, ◌↔◌, ◌≤◌, ◌+◌, ◌-◌, ℕ, List, length, min, set, option_map, IsErr, IfOk, IfSome, OnErr, OnOk, Vec};
+ghost use Rattle.std.specs.Prelude.{◌≡◌, ◌≢◌, ◌↔◌, ◌∷◌, [], ◌≤◌, ◌+◌, ◌-◌, ℕ, List, length, min, set, option_map, IsErr, IfOk, IfSome, OnErr, OnOk, Vec};
 
 use crate::calls::Calls;
 use crate::named_files::NamedFiles;
@@ -48,7 +48,8 @@ impl MemShelf {
 }
 
 impl Shelf for MemShelf {
-    ghost use Rattle.fr_io.specs.Faults.{one_more, Rose, NoneFalls};
+    ghost use Rattle.fr_io.specs.Faults.{one_more, Rose, NoneFalls, NoneMoves};
+    ghost use Rattle.fr_io.specs.Shelves.{OthersStay};
     ghost use Rattle.fr_io.specs.Files.{GivesFrom, Reaches};
     ghost use Rattle.fr_io.specs.MemShelf.{held_file, reached_position, fault_counts, fault_count, count_place, call_count, failing_calls, FailsNext};
 
@@ -66,6 +67,10 @@ impl Shelf for MemShelf {
         ensures reaches_not { OnErr result (reached_position self.new name.now ≡ reached_position self.old name.now) }
         ensures others { (other : List ℕ) → other ≢ name.now → reached_position self.new other ≡ reached_position self.old other }
         ensures counts { NoneFalls (fault_count self.old) (fault_count self.new) }
+        ensures counts_stay { OnOk result
+            (NoneMoves (fault_count self.old) (fault_count self.new)) }
+        ensures others_stay { OthersStay (name.now ∷ []) (held_file self.old)
+            (fault_count self.old) (fault_count self.new) }
         ensures cause { OnErr result (Rose (fault_count self.old name.now) (fault_count self.new name.now)) }
 
         // What this shelf alone says: which calls fail, how much the others give, and what is counted.

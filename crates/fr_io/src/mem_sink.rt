@@ -63,13 +63,13 @@ impl Sink for MemSink {
         ensures some { IfOk result (λ n. 0 < length bytes.now → 0 < n) }
         ensures written { WriteAppends (Some (sink_bytes self.old)) (Some (sink_bytes self.new)) result bytes.now }
         ensures counts { fault_count self.old ≤ fault_count self.new }
+        ensures counts_stay { OnOk result (fault_count self.new ≡ fault_count self.old) }
         ensures cause { OnErr result (Rose (fault_count self.old) (fault_count self.new)) }
 
         // What this sink alone says: which calls fail, how much the others take, and what is counted.
         ensures fails { IsErr result ↔ FailsNext self.old bytes.now }
         ensures amount { IfOk result (λ n. n ≡ min (length bytes.now) (room_left self.old)) }
         ensures counts_one { OnErr result (fault_count self.new ≡ one_more (fault_count self.old)) }
-        ensures counts_none { OnOk result (fault_count self.new ≡ fault_count self.old) }
         ensures calls { call_count self.new ≡ one_more (call_count self.old) }
         ensures failing { failing_calls self.new ≡ failing_calls self.old }
         ensures room { sink_room self.new ≡ sink_room self.old }

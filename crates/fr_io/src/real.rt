@@ -110,8 +110,8 @@ impl<R: Files> Shelf for DirShelf<R> {
     fn read(&mut self, name: &str, position: u64, buf: &mut [u8]) -> Result<usize, Failed>
         ensures within { IfOk result (λ n. n ≤ length buf.new) }
         ensures counts { shelf_faults self.old ≤ shelf_faults self.new }
+        ensures counts_stay { OnOk result (shelf_faults self.new ≡ shelf_faults self.old) }
         ensures counts_one { OnErr result (shelf_faults self.new ≡ one_more (shelf_faults self.old)) }
-        ensures counts_none { OnOk result (shelf_faults self.new ≡ shelf_faults self.old) }
     {
         match self.read_at(name, position, buf) {
             Ok(n) => Ok(n),
@@ -176,8 +176,8 @@ impl<W: Write + Drop> Sink for StdSink<W> {
         ensures within { IfOk result (λ n. n ≤ length bytes.now) }
         ensures some { IfOk result (λ n. 0 < length bytes.now → 0 < n) }
         ensures counts { sink_faults self.old ≤ sink_faults self.new }
+        ensures counts_stay { OnOk result (sink_faults self.new ≡ sink_faults self.old) }
         ensures counts_one { OnErr result (sink_faults self.new ≡ one_more (sink_faults self.old)) }
-        ensures counts_none { OnOk result (sink_faults self.new ≡ sink_faults self.old) }
     {
         match self.writer.write(bytes) {
             Ok(n) if n > 0 || bytes.is_empty() => Ok(n),

@@ -1,6 +1,7 @@
 // Files that are read by position.
-ghost use Rattle.std.specs.Prelude.{◌≡◌, ◌≢◌, ℕ, ◌≤◌, ◌+◌, List, length, take, OnErr, IfOk, IfSome, IsErrOf, Option};
-ghost use Rattle.fr_io.specs.Faults.{Rose, NoneFalls};
+ghost use Rattle.std.specs.Prelude.{◌≡◌, ◌≢◌, ℕ, ◌≤◌, ◌+◌, List, [], ◌∷◌, length, take, OnOk, OnErr, IfOk, IfSome, Option};
+ghost use Rattle.fr_io.specs.Faults.{Rose, FailsAs, NoneFalls, NoneMoves};
+ghost use Rattle.fr_io.specs.Shelves.{OthersStay, Reads};
 ghost use Rattle.fr_io.specs.Files.{GivesFrom, Reaches, ReachesFront};
 
 use crate::Failed;
@@ -26,7 +27,9 @@ pub trait Shelf {
     /// buffer is empty, and may otherwise give fewer bytes than there is room for.
     ///
     /// Fails only where the count of the name rose or stands at its greatest value; the buffer may
-    /// then hold anything. The files themselves never change, and it takes no memory of the caller.
+    /// then hold anything, and the counts of other files stay where those are told. A read that
+    /// doesn't fail leaves all counts. The files themselves never change, and it takes no memory of
+    /// the caller.
     fn read(&mut self, name: &str, position: u64, buf: &mut [u8]) -> Result<usize, Failed>
         ensures within { IfOk result (λ n. n ≤ length buf.new) }
         ensures given { IfOk result (λ n. IfSome (holds self.old name.now) (λ file. GivesFrom file position n buf.new)) }
@@ -35,6 +38,9 @@ pub trait Shelf {
         ensures reaches_not { OnErr result (reached self.new name.now ≡ reached self.old name.now) }
         ensures others { (other : List ℕ) → other ≢ name.now → reached self.new other ≡ reached self.old other }
         ensures counts { NoneFalls (faults self.old) (faults self.new) }
+        ensures counts_stay { OnOk result (NoneMoves (faults self.old) (faults self.new)) }
+        ensures others_stay { OthersStay (name.now ∷ []) (holds self.old)
+            (faults self.old) (faults self.new) }
         ensures cause { OnErr result (Rose (faults self.old name.now) (faults self.new name.now)) };
 }
 
@@ -51,8 +57,8 @@ pub enum ReadStop {
 /// caller sees that it is too long. It reads in pieces of at most 4,096 bytes, up to the end or to
 /// that many bytes.
 ///
-/// `ReadStop::Failed` comes only where the count of the name rose or stands at its greatest value.
-/// After either error some pieces were read.
+/// `ReadStop::Failed` comes only where the count of the name rose or stands at its greatest value,
+/// and else all counts stay. No other file is read. After either error some pieces were read.
 pub fn read_up_to<S: Shelf>(
     alloc: Global,
     shelf: &mut S,
@@ -61,10 +67,9 @@ pub fn read_up_to<S: Shelf>(
 ) -> Result<Vec<u8>, ReadStop>
     ensures bytes { IfOk result (λ bytes. IfSome (S.holds shelf.old name.now) (λ file. bytes.items ≡ take (limit + 1) file)) }
     ensures reached { IfOk result (λ bytes. ReachesFront (S.reached shelf.old name.now) (S.reached shelf.new name.now) (length bytes.items)) }
-    ensures files { (other : List ℕ) → S.holds shelf.new other ≡ S.holds shelf.old other }
-    ensures others { (other : List ℕ) → other ≢ name.now → S.reached shelf.new other ≡ S.reached shelf.old other }
-    ensures counts { NoneFalls (S.faults shelf.old) (S.faults shelf.new) }
-    ensures cause { IsErrOf result ReadStop.Failed → Rose (S.faults shelf.old name.now) (S.faults shelf.new name.now) }
+    ensures shelf { Reads (name.now ∷ []) (FailsAs result ReadStop.Failed)
+        (S.holds shelf.old) (S.holds shelf.new) (S.reached shelf.old) (S.reached shelf.new)
+        (S.faults shelf.old) (S.faults shelf.new) }
 {
     let mut bytes = Vec::new(alloc);
     let mut buf = [0u8; 4096];

@@ -1,7 +1,7 @@
 // Sinks of bytes.
-ghost use Rattle.std.specs.Prelude.{ℕ, ◌≤◌, ◌<◌, List, length, OnOk, OnErr, IfOk, Option};
+ghost use Rattle.std.specs.Prelude.{ℕ, ◌≡◌, ◌≤◌, ◌<◌, List, [], length, OnOk, OnErr, IfOk, IsErr, Option};
 ghost use Rattle.std.specs.Io.KnownBytes.{Appends, WriteAppends};
-ghost use Rattle.fr_io.specs.Faults.{Rose};
+ghost use Rattle.fr_io.specs.Faults.{Rose, Counts};
 ghost use Rattle.fr_io.specs.Files.{AppendsSome};
 
 /// The fault of every read and write.
@@ -23,24 +23,26 @@ pub trait Sink {
     /// many.
     ///
     /// Fails only where the count rose or stands at its greatest value, and then nothing was
-    /// written. It takes no memory.
+    /// written. A write that doesn't fail leaves the count. It takes no memory.
     fn write(&mut self, bytes: &[u8]) -> Result<usize, Failed>
         ensures within { IfOk result (λ n. n ≤ length bytes.now) }
         ensures some { IfOk result (λ n. 0 < length bytes.now → 0 < n) }
         ensures written { WriteAppends (written self.old) (written self.new) result bytes.now }
         ensures counts { faults self.old ≤ faults self.new }
+        ensures counts_stay { OnOk result (faults self.new ≡ faults self.old) }
         ensures cause { OnErr result (Rose (faults self.old) (faults self.new)) };
 }
 
-/// Writes a piece whole, in as many writes as the sink needs. An empty piece takes no write.
+/// Writes a piece whole, in as many writes as the sink needs. An empty piece takes no write, and
+/// leaves the sink as it is.
 ///
 /// Fails only where the sink's count rose or stands at its greatest value, and then some first bytes
-/// of the piece were written. It takes no memory.
+/// of the piece were written, but not all. It takes no memory.
 pub fn write_all<O: Sink>(sink: &mut O, bytes: &[u8]) -> Result<(), Failed>
     ensures ok { OnOk result (Appends (O.written sink.old) (O.written sink.new) bytes.now) }
     ensures err { OnErr result (AppendsSome (O.written sink.old) (O.written sink.new) bytes.now) }
-    ensures counts { O.faults sink.old ≤ O.faults sink.new }
-    ensures cause { OnErr result (Rose (O.faults sink.old) (O.faults sink.new)) }
+    ensures nothing { bytes.now ≡ [] → sink.new ≡ sink.old }
+    ensures counts { Counts (IsErr result) (O.faults sink.old) (O.faults sink.new) }
 {
     let mut at = 0;
     while at < bytes.len() {

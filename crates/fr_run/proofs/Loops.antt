@@ -1,5 +1,5 @@
 -- A run over the instants of a script, one after the other.
-use Rattle.std.proofs.Common.{◌≡◌, ◌∙◌, ℕ, ◌+◌, true, List, [], ◌∷◌, ◌++◌, Option, Some, None, refl, sym, ap, subst, arith}
+use Rattle.std.proofs.Common.{◌≡◌, ◌∙◌, ℕ, ◌+◌, true, List, [], ◌∷◌, ◌++◌, Option, Some, None, refl, sym, ap, subst}
 use Rattle.std.specs.Io.KnownBytes.{Appends}
 use Rattle.fr_io.proofs.Appending.{appends_more}
 use Rattle.fr_core.specs.declared.inputs.Inputs.{Inputs}
@@ -86,6 +86,11 @@ ends_bad other p ss script given s shows x h =
     ap (λ (is : List Inputs). over_instants p (script_end (bad_line ss script true)) s shows is) h.0 ∙ ap (λ (e : Option Stop). stopped e) h.1 in
     subst (λ (c : Course). EndsThere (Some other) c x x) (sym is) (refl, appends_nothing x)
 
+-- a bad line is no write fault
+no_write : (b : Option BadLine) → script_end b ≡ Some Write → ⊥
+no_write None e = cc
+no_write (Some b) e = cc
+
 ends_says : (other : Stop) (p : Program) (ss : List Named) (script : List ℕ) (given : ℕ) (s : State) (shows : List Shown) (x : Option (List ℕ))
     → EndsAt other ss script given → StopSays other (course_behind p ss script given s shows) x x
 ends_says Usage p ss script given s shows x h = ends_bad Usage p ss script given s shows x h
@@ -93,7 +98,7 @@ ends_says (Refused f k) p ss script given s shows x h = ends_bad (Refused f k) p
 ends_says (Script n k) p ss script given s shows x h = ends_bad (Script n k) p ss script given s shows x h
 ends_says (Evaluation n) p ss script given s shows x h = ends_bad (Evaluation n) p ss script given s shows x h
 ends_says Read p ss script given s shows x h = nothing_whole _ x
-ends_says Write p ss script given s shows x h = (0, omega arith, appends_nothing x)
+ends_says Write p ss script given s shows x h = absurd (no_write (bad_line ss script true) h.1)
 ends_says (Memory e) p ss script given s shows x h = nothing_whole _ x
 
 -- a stop that the reader told

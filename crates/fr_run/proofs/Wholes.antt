@@ -20,7 +20,7 @@ use Rattle.fr_show.specs.declared.stop.Stop.TheVariants.{Usage, Script, Evaluati
 use Rattle.fr_show.specs.Accepted.{Verdict, OnJudged, OnEachJudged}
 use Rattle.fr_show.specs.Stops.{Tells}
 use Rattle.fr_show.specs.Course.{Course, joined, after}
-use Rattle.fr_show.specs.Ends.{EndsThere, StopSays, SaysOn}
+use Rattle.fr_show.specs.Ends.{EndsThere, StopSays, SaysOn, Begins}
 use Rattle.fr_show.specs.Output.{shows_of, unless_errs, onward, over_instants, script_end, program_course, course_over}
 use Rattle.fr_show.proofs.Courses.{appends_nothing, appends_one, ends_after, whole_after, some_after, nothing_whole}
 use Rattle.fr_show.proofs.Judged.{on_each, says_judged}
@@ -111,6 +111,18 @@ pub first_stops : (stop : Stop) (p : Program) (a : Afresh) (later : List Shown) 
 first_stops stop p a later x y z file w unread says =
     let text = instant_text 0 (shows_of p.body) (instant p (beginning p) first_instant).evaluated.shown in
     subst (λ (c : Course). StopSays stop c x z) (sym (course_first p a later x y file w)) (says_first stop text (course_behind (program_of a) (sources (program_of a)) file 0 (state_of a) later) x y z w.written unread says)
+
+-- behind instant 0 alone
+pub first_begins : (p : Program) (a : Afresh) (later : List Shown) (x y z : Option (List ℕ)) (file : List ℕ)
+    → Wrote a p (instant p (beginning p) first_instant) 0 (shows_of p.body) later x y → z ≡ y → Begins (program_course p file true) x z
+first_begins p a later x y z file w same =
+    let text = instant_text 0 (shows_of p.body) (instant p (beginning p) first_instant).evaluated.shown in
+    record {
+      text = text;
+      behind = (course_behind (program_of a) (sources (program_of a)) file 0 (state_of a) later).texts;
+      texts = ap (λ (c : Course). c.texts) (course_first p a later x y file w);
+      written = subst (λ (o : Option (List ℕ)). Appends x o text) (sym same) w.written;
+    }
 
 -- a stop within instant 0
 pub stops_first : (stop : Stop) (p : Program) (shows : List Shown) (x y : Option (List ℕ)) (file : List ℕ) → shows ≡ shows_of p.body

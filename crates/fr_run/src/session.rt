@@ -1,6 +1,7 @@
-ghost use Rattle.std.specs.Prelude.{◌≡◌, ◌≢◌, ◌≤◌, ℕ, List, true, length, None, Some, IfOk, IfErr, IfSome, OnOk, IsErrOf};
+ghost use Rattle.std.specs.Prelude.{◌≡◌, ◌≢◌, ◌≤◌, ℕ, List, [], ◌∷◌, true, length, Option, None, Some, IfOk, IfErr, IfSome, OnOk, IsErrOf};
 ghost use Rattle.std.specs.Io.KnownBytes.{Appends};
-ghost use Rattle.fr_io.specs.Faults.{Rose, NoneFalls};
+ghost use Rattle.fr_io.specs.Faults.{FailsAs, Counts};
+ghost use Rattle.fr_io.specs.Shelves.{Reads};
 ghost use Rattle.fr_io.specs.Files.{ReachesFront};
 ghost use Rattle.fr_core.specs.WellFormed.{IsWellFormed};
 ghost use Rattle.fr_script.specs.Sources.{Named, sources};
@@ -9,7 +10,7 @@ ghost use Rattle.fr_meaning.specs.Afresh.{State, beginning, first_instant, insta
 ghost use Rattle.fr_afresh.specs.Stands.{program_of, state_of, shown_of};
 ghost use Rattle.fr_show.specs.Accepted.{OnJudged, OnEachJudged};
 ghost use Rattle.fr_show.specs.Course.{Course};
-ghost use Rattle.fr_show.specs.Ends.{EndsThere, StopSays, SaysOn};
+ghost use Rattle.fr_show.specs.Ends.{EndsThere, StopSays, SaysOn, Begins};
 ghost use Rattle.fr_show.specs.Output.{shows_of, onward, program_course, course_over};
 ghost use Rattle.fr_run.specs.Scripts.{IsFed, IsFedSome};
 ghost use Rattle.fr_run.specs.Runs.{AreShowsOf, seen_of, Wrote, CutShort, course_behind};
@@ -64,8 +65,7 @@ fn write_text<O: Sink>(
     ensures err { IfErr result (λ stop. CutShort stop (instant_text time shows.old (seen_of afresh.now)) (O.written out.old) (O.written out.new)) }
     ensures no_read { IsErrOf result Stop.Read → ⊥ }
     ensures no_usage { IsErrOf result Stop.Usage → ⊥ }
-    ensures counts { O.faults out.old ≤ O.faults out.new }
-    ensures cause { IsErrOf result Stop.Write → Rose (O.faults out.old) (O.faults out.new) }
+    ensures counts { Counts (FailsAs result Stop.Write) (O.faults out.old) (O.faults out.new) }
 {
     let text = match text_of(alloc, afresh, time, shows) {
         Ok(text) => text,
@@ -104,8 +104,7 @@ fn begin<O: Sink>(
         StopSays stop (onward 0 shows.old (instant_after program (beginning program) first_instant) rest) (O.written out.old) (O.written out.new)) }
     ensures no_read { IsErrOf result Stop.Read → ⊥ }
     ensures no_usage { IsErrOf result Stop.Usage → ⊥ }
-    ensures counts { O.faults out.old ≤ O.faults out.new }
-    ensures cause { IsErrOf result Stop.Write → Rose (O.faults out.old) (O.faults out.new) }
+    ensures counts { Counts (FailsAs result Stop.Write) (O.faults out.old) (O.faults out.new) }
 {
     let first = Inputs {
         time: 0,
@@ -137,8 +136,7 @@ fn step<O: Sink>(
         StopSays stop (onward inputs.now.time shows.old (instant_after (program_of afresh) (state_of afresh) inputs.now) rest) (O.written out.old) (O.written out.new)) }
     ensures no_read { IsErrOf result Stop.Read → ⊥ }
     ensures no_usage { IsErrOf result Stop.Usage → ⊥ }
-    ensures counts { O.faults out.old ≤ O.faults out.new }
-    ensures cause { IsErrOf result Stop.Write → Rose (O.faults out.old) (O.faults out.new) }
+    ensures counts { Counts (FailsAs result Stop.Write) (O.faults out.old) (O.faults out.new) }
 {
     let next = match afresh.instant(inputs) {
         Ok(next) => next,
@@ -167,8 +165,7 @@ fn run_on<O: Sink>(
         StopSays stop (course_behind (program_of afresh) ss script given (state_of afresh) shows.old) (O.written out.old) (O.written out.new)) }
     ensures no_read { IsErrOf result Stop.Read → ⊥ }
     ensures no_usage { IsErrOf result Stop.Usage → ⊥ }
-    ensures counts { O.faults out.old ≤ O.faults out.new }
-    ensures cause { IsErrOf result Stop.Write → Rose (O.faults out.old) (O.faults out.new) }
+    ensures counts { Counts (FailsAs result Stop.Write) (O.faults out.old) (O.faults out.new) }
 {
     'instants: loop {
         let inputs = match next_instant(reader) {
@@ -199,12 +196,11 @@ fn run_script<S: Shelf, O: Sink>(
     ensures err { IfErr result (λ stop. IfSome (S.holds shelf.old script.now) (λ file.
         StopSays stop (course_behind (program_of afresh) (sources (program_of afresh)) file 0 (state_of afresh) shows.old) (O.written out.old) (O.written out.new))) }
     ensures to_end { OnOk result (IfSome (S.holds shelf.old script.now) (λ file. ReachesFront (S.reached shelf.old script.now) (S.reached shelf.new script.now) (length file))) }
-    ensures files { (other : List ℕ) → S.holds shelf.new other ≡ S.holds shelf.old other }
-    ensures unread { IsErrOf result Stop.Read → O.written out.new ≡ O.written out.old }
-    ensures shelf_counts { NoneFalls (S.faults shelf.old) (S.faults shelf.new) }
-    ensures out_counts { O.faults out.old ≤ O.faults out.new }
-    ensures read_fault { IsErrOf result Stop.Read → Rose (S.faults shelf.old script.now) (S.faults shelf.new script.now) }
-    ensures write_fault { IsErrOf result Stop.Write → Rose (O.faults out.old) (O.faults out.new) }
+    ensures unread { FailsAs result Stop.Read → O.written out.new ≡ O.written out.old }
+    ensures shelf { Reads (script.now ∷ []) (FailsAs result Stop.Read)
+        (S.holds shelf.old) (S.holds shelf.new) (S.reached shelf.old) (S.reached shelf.new)
+        (S.faults shelf.old) (S.faults shelf.new) }
+    ensures counts { Counts (FailsAs result Stop.Write) (O.faults out.old) (O.faults out.new) }
     ensures no_usage { IsErrOf result Stop.Usage → ⊥ }
 {
     let bytes = match read_up_to(alloc, shelf, script, SCRIPT_LIMIT) {
@@ -234,11 +230,12 @@ fn run_program<S: Shelf, O: Sink>(
     ensures ok { OnOk result (IfSome (S.holds shelf.old script.now) (λ file. EndsThere None (program_course program file true) (O.written out.old) (O.written out.new))) }
     ensures err { IfErr result (λ stop. IfSome (S.holds shelf.old script.now) (λ file. StopSays stop (program_course program file true) (O.written out.old) (O.written out.new))) }
     ensures to_end { OnOk result (IfSome (S.holds shelf.old script.now) (λ file. ReachesFront (S.reached shelf.old script.now) (S.reached shelf.new script.now) (length file))) }
-    ensures files { (other : List ℕ) → S.holds shelf.new other ≡ S.holds shelf.old other }
-    ensures shelf_counts { NoneFalls (S.faults shelf.old) (S.faults shelf.new) }
-    ensures out_counts { O.faults out.old ≤ O.faults out.new }
-    ensures read_fault { IsErrOf result Stop.Read → Rose (S.faults shelf.old script.now) (S.faults shelf.new script.now) }
-    ensures write_fault { IsErrOf result Stop.Write → Rose (O.faults out.old) (O.faults out.new) }
+    ensures began { FailsAs result Stop.Read → (file : List ℕ) →
+        Begins (program_course program file true) (O.written out.old) (O.written out.new) }
+    ensures shelf { Reads (script.now ∷ []) (FailsAs result Stop.Read)
+        (S.holds shelf.old) (S.holds shelf.new) (S.reached shelf.old) (S.reached shelf.new)
+        (S.faults shelf.old) (S.faults shelf.new) }
+    ensures counts { Counts (FailsAs result Stop.Write) (O.faults out.old) (O.faults out.new) }
     ensures no_usage { IsErrOf result Stop.Usage → ⊥ }
 {
     let mut shows = match Shows::new(alloc, &program) {
@@ -258,12 +255,13 @@ fn run_program<S: Shelf, O: Sink>(
 /// Accepts the program that a text is, and runs it over a script by evaluating the whole of it afresh at each instant.
 ///
 /// `program` is the text, or its first bytes where they are more than 1,048,576. Instant 0 is run and its text written
-/// before the script is first read; then the script is read to its end, and each of its instants is run, its text written
-/// once the whole instant is done. After `Ok` all texts of the program's course were appended to `out`, and the script was
-/// read to its end. `Stop::Program` comes before anything is written. `Stop::Script` comes behind the whole instants before
-/// the bad line, and `Stop::Evaluation` behind those before the instant that errs. After `Stop::Read`, which comes only
-/// where the script's count of faults rose, no more than instant 0 was written; after `Stop::Write`, which comes only where
-/// the count of `out` rose, some first bytes of the course's texts; after `Stop::Memory` a whole number of texts.
+/// before the script is first read; then the script is read to its end, and each of its instants is run, its text
+/// written once the whole instant is done. After `Ok` all texts of the program's course were appended to `out`, and the
+/// script was read to its end. `Stop::Program` comes before anything is written. `Stop::Script` comes behind the whole
+/// instants before the bad line, and `Stop::Evaluation` behind those before the instant that errs. After `Stop::Read`,
+/// which comes exactly where the script's count of faults rose, the program is accepted and exactly the text of instant
+/// 0 was written; after `Stop::Write`, which comes exactly where the count of `out` rose, some first bytes of the
+/// course's texts, but not all; after `Stop::Memory` a whole number of texts. No other file is read.
 pub fn afresh_session<S: Shelf, O: Sink>(
     alloc: Global,
     program: &[u8],
@@ -274,11 +272,13 @@ pub fn afresh_session<S: Shelf, O: Sink>(
     ensures ok { OnOk result (OnJudged (course_over (S.holds shelf.old script.now)) (Some program.now) (λ c. EndsThere None c (O.written out.old) (O.written out.new))) }
     ensures err { IfErr result (λ stop. SaysOn stop (OnJudged (course_over (S.holds shelf.old script.now)) (Some program.now)) (OnEachJudged (course_over (S.holds shelf.old script.now)) (Some program.now)) (O.written out.old) (O.written out.new)) }
     ensures to_end { OnOk result (IfSome (S.holds shelf.old script.now) (λ file. ReachesFront (S.reached shelf.old script.now) (S.reached shelf.new script.now) (length file))) }
-    ensures files { (other : List ℕ) → S.holds shelf.new other ≡ S.holds shelf.old other }
-    ensures shelf_counts { NoneFalls (S.faults shelf.old) (S.faults shelf.new) }
-    ensures out_counts { O.faults out.old ≤ O.faults out.new }
-    ensures read_fault { IsErrOf result Stop.Read → Rose (S.faults shelf.old script.now) (S.faults shelf.new script.now) }
-    ensures write_fault { IsErrOf result Stop.Write → Rose (O.faults out.old) (O.faults out.new) }
+    ensures began { FailsAs result Stop.Read → (any : Option (List ℕ)) →
+        OnJudged (course_over any) (Some program.now)
+        (λ c. Begins c (O.written out.old) (O.written out.new)) }
+    ensures shelf { Reads (script.now ∷ []) (FailsAs result Stop.Read)
+        (S.holds shelf.old) (S.holds shelf.new) (S.reached shelf.old) (S.reached shelf.new)
+        (S.faults shelf.old) (S.faults shelf.new) }
+    ensures counts { Counts (FailsAs result Stop.Write) (O.faults out.old) (O.faults out.new) }
     ensures no_usage { IsErrOf result Stop.Usage → ⊥ }
 {
     let program = match accept(alloc, program) {

@@ -1,5 +1,5 @@
 -- What was written of a course, by how it was stopped.
-use Rattle.std.specs.Prelude.{◌≡◌, ◌≤◌, ℕ, List, length, take, Option, Some}
+use Rattle.std.specs.Prelude.{◌≡◌, ◌≤◌, ℕ, List, ◌∷◌, length, take, Option, Some}
 use Rattle.std.specs.Io.KnownBytes.{Appends}
 use Rattle.fr_io.specs.Files.{AppendsSome}
 use Rattle.fr_show.specs.declared.stop.Stop.{Stop}
@@ -16,8 +16,9 @@ AppendsWhole old new texts = (k : ℕ) × (k ≤ length texts) × Appends old ne
 abbrev pub EndsThere : Option Stop → Course → Option (List ℕ) → Option (List ℕ) → Type 0
 EndsThere stop c old new = (c.stop ≡ stop) × Appends old new (joined c.texts)
 
--- what a stop says: the course ends so; after a read fault nothing or the text of instant 0 was appended, since the script
--- is read before it is run; after a write fault some first bytes; after want of memory a whole number of texts
+-- what a stop says: the course ends so; after a read fault nothing or the text of instant 0 was appended, since the
+-- script is read before it is run; after a write fault some first bytes, but not all; after want of memory a whole
+-- number of texts
 abbrev pub StopSays : Stop → Course → Option (List ℕ) → Option (List ℕ) → Type 0
 StopSays Usage c old new = EndsThere (Some Usage) c old new
 StopSays (Program form kind) c old new = EndsThere (Some (Program form kind)) c old new
@@ -36,6 +37,13 @@ SaysOn (Evaluation time) on each old new = on (λ c. StopSays (Evaluation time) 
 SaysOn Read on each old new = each (λ c. StopSays Read c old new)
 SaysOn Write on each old new = on (λ c. StopSays Write c old new)
 SaysOn (Memory e) on each old new = each (λ c. StopSays (Memory e) c old new)
+
+-- the course has a first text, which was appended whole, and no other
+pub record Begins (c : Course) (old new : Option (List ℕ)) : Type 0 where
+  pub text : List ℕ
+  pub behind : List (List ℕ)
+  pub texts : c.texts ≡ text ∷ behind
+  pub written : Appends old new text
 
 -- the course ends with a refusal of the program, with one of the script, with an instant that errs
 abbrev pub RefusesProgram : Course → Option (List ℕ) → Option (List ℕ) → Type 0

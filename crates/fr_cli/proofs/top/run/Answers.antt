@@ -1,36 +1,26 @@
-use Rattle.std.proofs.Common.{List, ℕ, None, take, subst, Option, Some}
-use Rattle.fr_show.specs.Accepted.{OnJudged, OnEachJudged}
-use Rattle.fr_show.specs.Course.{Course}
-use Rattle.fr_show.specs.Ends.{EndsThere, SaysOn}
-use Rattle.fr_show.specs.Output.{course_over}
-use Rattle.fr_show.proofs.Courses.{nothing_whole}
-use Rattle.fr_show.proofs.Judged.{on_each, judged_of_front, says_of_front}
+use Rattle.std.proofs.Common.{◌≡◌, List, ℕ, take, length, sym, subst, rules, IfSome}
+use Rattle.fr_io.specs.Files.{ReachesFront}
+use Rattle.fr_cli.specs.Command.{over_script}
+use Rattle.fr_cli.proofs.Runs.{unread, ran}
 use Rattle.fr_cli.proofs.top.run.Goals as goal
 
-pub returns-in-Err-Memory-clause-err : goal.returns-in-Err-Memory-clause-err
-returns-in-Err-Memory-clause-err g c =
-    on_each (course_over (g.S.Shelf.holds c.args.shelf.now c.args.script.now)) (g.S.Shelf.holds c.args.shelf.now c.args.program.now) _ (λ d. nothing_whole d.texts (g.O.Sink.written c.args.out.now))
+pub returns-in-Err : goal.returns-in-Err
+returns-in-Err g c word =
+    unread (over_script word c.args.program.now c.args.script.now) c.in-Err.stop _ _ _ _ _ _ _ _ c.in-Err.ensures.err (search rules) (search rules) c.in-Err.ensures.shelf
 
-pub returns-in-Err-Failed-clause-err : goal.returns-in-Err-Failed-clause-err
-returns-in-Err-Failed-clause-err g c =
-    on_each (course_over (g.S.Shelf.holds c.args.shelf.now c.args.script.now)) (g.S.Shelf.holds c.args.shelf.now c.args.program.now) _ (λ d. nothing_whole (take 1 d.texts) (g.O.Sink.written c.args.out.now))
-
-pub returns-in-Ok-afresh_session-clause-ok : goal.returns-in-Ok-afresh_session-clause-ok
-returns-in-Ok-afresh_session-clause-ok g c =
-    let holds = g.S.Shelf.holds c.args.shelf.now in
-    let later = g.S.Shelf.holds c.read_up_to.new.shelf c.args.script.now in
-    let ends = λ (d : Course). EndsThere None d (g.O.Sink.written c.args.out.now) (g.O.Sink.written c.afresh_session.new.out) in
-    let read = subst (λ (b : List ℕ). OnJudged (course_over later) (Some b) ends) c.deref.ensures.value c.in-Ok-afresh_session.ensures.ok in
-    judged_of_front (course_over (holds c.args.script.now)) (holds c.args.program.now) c.in-Ok.text.items ends c.in-Ok.ensures.bytes
-    (subst (λ (o : Option (List ℕ)). OnJudged (course_over o) (Some c.in-Ok.text.items) ends) (c.read_up_to.ensures.files c.args.script.now) read)
-
-pub returns-clause-err : goal.returns-clause-err
-returns-clause-err g c =
-    let holds = g.S.Shelf.holds c.args.shelf.now in
-    let later = g.S.Shelf.holds c.read_up_to.new.shelf c.args.script.now in
-    let stop = c.in-Err.stop in
-    let out = g.O.Sink.written c.args.out.now in
-    let new = g.O.Sink.written c.afresh_session.new.out in
-    let read = subst (λ (b : List ℕ). SaysOn stop (OnJudged (course_over later) (Some b)) (OnEachJudged (course_over later) (Some b)) out new) c.deref.ensures.value c.in-Err.ensures.err in
-    says_of_front (course_over (holds c.args.script.now)) (holds c.args.program.now) c.in-Ok.text.items stop out new c.in-Ok.ensures.bytes
-    (subst (λ (o : Option (List ℕ)). SaysOn stop (OnJudged (course_over o) (Some c.in-Ok.text.items)) (OnEachJudged (course_over o) (Some c.in-Ok.text.items)) out new) (c.read_up_to.ensures.files c.args.script.now) read)
+pub returns : goal.returns
+returns g c word =
+    let program = c.args.program.now in
+    let seen = sym c.deref.ensures.value in
+    let bytes = subst (λ (b : List ℕ). IfSome (g.S.Shelf.holds c.args.shelf.now program) (λ file. b ≡ take 1048577 file)) seen c.in-Ok.ensures.text in
+    let reached = subst (λ (b : List ℕ). ReachesFront (g.S.Shelf.reached c.args.shelf.now program) (g.S.Shelf.reached c.read_program.new.shelf program) (length b)) seen c.in-Ok.ensures.reached in
+    ran word program c.args.script.now c.deref.result.now c.afresh_session.result _ _ _ _ _ _ _ _ _ _ _ _ _ bytes reached c.in-Ok.ensures.shelf
+    (record {
+      ok = c.afresh_session.ensures.ok;
+      err = c.afresh_session.ensures.err;
+      to_end = c.afresh_session.ensures.to_end;
+      began = c.afresh_session.ensures.began;
+      shelf = c.afresh_session.ensures.shelf;
+      counts = c.afresh_session.ensures.counts;
+      no_usage = c.afresh_session.ensures.no_usage;
+    })

@@ -2,6 +2,7 @@ use Rattle.std.proofs.Common.{◌≡◌, ◌∙◌, ℕ, ◌+◌, ◌≤◌, ◌
 use Rattle.std.proofs.lemmas.List.{take-append-le, length-take-le}
 use Rattle.fr_io.specs.Files.{Reaches, ReachesFront}
 use Rattle.fr_io.proofs.Reading.{piece_read, reached_more}
+use Rattle.fr_io.proofs.Shelves.{fine, reads_then}
 use Rattle.fr_io.proofs.shelf.read_up_to.Goals as goal
 
 pub loop-buf-preserved : goal.loop-buf-preserved
@@ -15,10 +16,8 @@ loop-buf-preserved g c =
     let small : c.in-Ok.n ≤ c.min-room.result + 1 = search rules in
     record {
       within = omega arith;
-      bytes = piece_read _ _ _ _ c.read.new.buf c.in-Ok.n c.len-in-loop-buf-2.result (c.loop-buf.invariant.files c.args.name.now) (search rules) c.in-Ok.ensures.within items c.loop-buf.invariant.bytes c.in-Ok.ensures.given;
+      bytes = piece_read _ _ _ _ c.read.new.buf c.in-Ok.n c.len-in-loop-buf-2.result (c.loop-buf.invariant.shelf.files c.args.name.now) (search rules) c.in-Ok.ensures.within items c.loop-buf.invariant.bytes c.in-Ok.ensures.given;
       reached = subst (λ (n : ℕ). ReachesFront (g.S.Shelf.reached c.args.shelf.now c.args.name.now) (g.S.Shelf.reached c.read.new.self c.args.name.now) n) (sym grown)
           (reached_more _ _ _ (length c.loop-buf.bytes.items) c.in-Ok.n c.loop-buf.invariant.reached (subst (λ (p : ℕ). Reaches (g.S.Shelf.reached c.loop-buf.shelf c.args.name.now) (g.S.Shelf.reached c.read.new.self c.args.name.now) p c.in-Ok.n) (search rules) c.in-Ok.ensures.reaches));
-      files = λ other. c.read.ensures.files other ∙ c.loop-buf.invariant.files other;
-      others = λ other ne. c.read.ensures.others other ne ∙ c.loop-buf.invariant.others other ne;
-      counts = λ name. omega (arith, c.read.ensures.counts name, c.loop-buf.invariant.counts name);
+      shelf = reads_then c.loop-buf.invariant.shelf (λ x. x) (fine _ ⊥ _ _ _ _ _ _ (λ x. x) c.read.ensures.files (λ other apart. c.read.ensures.others other apart.0) c.in-Ok.ensures.counts_stay);
     }

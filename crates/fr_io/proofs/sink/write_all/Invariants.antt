@@ -1,4 +1,4 @@
-use Rattle.std.proofs.Common.{◌≤◌, ◌-◌, length, take}
+use Rattle.std.proofs.Common.{◌≡◌, ◌≤◌, ◌-◌, [], length, take}
 use Rattle.std.specs.Io.KnownBytes.{Appends}
 use Rattle.fr_io.proofs.sink.write_all.Given as goal
 
@@ -6,7 +6,8 @@ abbrev pub invariant-loop-at : goal.invariant-loop-at
 invariant-loop-at g l = record {
   within : l.at ≤ length l.bytes;
   written : Appends (g.O.Sink.written l.fn.sink) (g.O.Sink.written l.sink) (take l.at l.bytes);
-  counts : g.O.Sink.faults l.fn.sink ≤ g.O.Sink.faults l.sink;
+  nothing : l.bytes ≡ [] → l.sink ≡ l.fn.sink;
+  counts : g.O.Sink.faults l.sink ≡ g.O.Sink.faults l.fn.sink;
 }
 
 abbrev pub decreases-loop-at : goal.decreases-loop-at

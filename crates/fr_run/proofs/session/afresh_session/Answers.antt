@@ -1,9 +1,9 @@
-use Rattle.std.proofs.Common.{None, Ok}
+use Rattle.std.proofs.Common.{true, None, Ok}
 use Rattle.fr_show.specs.Course.{Course}
-use Rattle.fr_show.specs.Ends.{EndsThere, StopSays}
-use Rattle.fr_show.specs.Output.{course_over}
+use Rattle.fr_show.specs.Ends.{EndsThere, StopSays, Begins}
+use Rattle.fr_show.specs.Output.{program_course, course_over}
 use Rattle.fr_show.proofs.Judged.{says_judged}
-use Rattle.fr_run.proofs.Wholes.{over_told, says_unaccepted}
+use Rattle.fr_run.proofs.Wholes.{told_all, over_told, says_unaccepted}
 use Rattle.fr_run.proofs.session.afresh_session.Goals as goal
 
 pub returns-in-Err-clause-err : goal.returns-in-Err-clause-err
@@ -24,3 +24,9 @@ returns-in-Err-run_program-clause-err g c =
     says_judged (course_over held) c.args.program.now (Ok c.in-Ok.program) c.in-Err-run_program.stop (g.O.Sink.written c.args.out.now) (g.O.Sink.written c.run_program.new.out)
     c.in-Ok.ensures.accepted
     (over_told c.in-Ok.program held (λ (d : Course). StopSays c.in-Err-run_program.stop d (g.O.Sink.written c.args.out.now) (g.O.Sink.written c.run_program.new.out)) c.in-Err-run_program.ensures.err)
+
+pub returns-in-Err-run_program-clause-began : goal.returns-in-Err-run_program-clause-began
+returns-in-Err-run_program-clause-began g c e any =
+    let p = c.in-Ok.program in
+    let begins = λ (d : Course). Begins d (g.O.Sink.written c.args.out.now) (g.O.Sink.written c.run_program.new.out) in
+    (Ok p, c.in-Ok.ensures.accepted, over_told p any begins (told_all any (λ file. begins (program_course p file true)) (c.in-Err-run_program.ensures.began e)))

@@ -1,4 +1,4 @@
-use Rattle.std.proofs.Common.{◌∙◌, ap, Err, List, Option, refl, subst, arith, length}
+use Rattle.std.proofs.Common.{◌∙◌, ap, Err, List, Option, refl, subst, length}
 use Rattle.fr_core.specs.declared.inputs.Inputs.{Inputs}
 use Rattle.fr_core.specs.declared.program.Program.{Program}
 use Rattle.fr_meaning.specs.Texts.{Shown}
@@ -19,7 +19,7 @@ instants-init g c = record {
   each = c.requires.one_each;
   so_far = λ ss script given h.
       none_done (program_of c.args.afresh) ss script given c.args.reader.now (state_of c.args.afresh) c.args.shows.now (g.O.Sink.written c.args.out.now) h;
-  counts = omega arith;
+  counts = refl;
 }
 
 pub returns-in-Ok-None-clause-ok : goal.returns-in-Ok-None-clause-ok
@@ -56,7 +56,7 @@ instants-preserved g c =
       so_far = λ ss script given h.
           one_done p ss script (course_behind p ss script given (state_of c.args.afresh) c.args.shows.now) c.instants.reader c.next_instant.new.reader (state_of c.instants.afresh) c.instants.shows c.step.new.shows c.in-Ok-Some.inputs c.in-Ok.next
           (g.O.Sink.written c.args.out.now) (g.O.Sink.written c.instants.out) (g.O.Sink.written c.step.new.out) (λ now fed. tells ss script now fed) (c.instants.invariant.so_far ss script given h) wrote;
-      counts = omega (arith, c.step.ensures.counts, c.instants.invariant.counts);
+      counts = c.in-Ok.ensures.counts.stays (λ e. e) ∙ c.instants.invariant.counts;
     }
 
 pub step-requires-clause-time : goal.step-requires-clause-time

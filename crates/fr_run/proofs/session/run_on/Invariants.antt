@@ -1,4 +1,4 @@
-use Rattle.std.proofs.Common.{◌≡◌, ◌≤◌, ℕ, List}
+use Rattle.std.proofs.Common.{◌≡◌, ℕ, List}
 use Rattle.fr_script.specs.Sources.{Named}
 use Rattle.fr_script.specs.Stands.{left}
 use Rattle.fr_afresh.specs.Stands.{program_of, state_of}
@@ -14,7 +14,7 @@ invariant-instants g l = record {
   so_far : (ss : List Named) (script : List ℕ) (given : ℕ) → IsFed l.fn.reader ss script given
       → SoFar (program_of l.fn.afresh) ss script (course_behind (program_of l.fn.afresh) ss script given (state_of l.fn.afresh) l.fn.shows)
       l.reader (state_of l.afresh) l.shows (g.O.Sink.written l.fn.out) (g.O.Sink.written l.out);
-  counts : g.O.Sink.faults l.fn.out ≤ g.O.Sink.faults l.out;
+  counts : g.O.Sink.faults l.out ≡ g.O.Sink.faults l.fn.out;
 }
 
 abbrev pub decreases-instants : goal.decreases-instants

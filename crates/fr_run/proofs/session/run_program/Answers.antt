@@ -1,4 +1,4 @@
-use Rattle.std.proofs.Common.{List, ℕ, true, ap, subst, sym, Err}
+use Rattle.std.proofs.Common.{List, ℕ, true, subst, sym}
 use Rattle.fr_core.specs.WellFormed.{IsWellFormed}
 use Rattle.fr_script.specs.Sources.{sources}
 use Rattle.fr_meaning.specs.Texts.{Shown}
@@ -8,7 +8,7 @@ use Rattle.fr_show.specs.Ends.{StopSays}
 use Rattle.fr_show.specs.Output.{program_course}
 use Rattle.fr_run.specs.Runs.{Wrote, course_behind}
 use Rattle.fr_run.proofs.Each.{shows_after}
-use Rattle.fr_run.proofs.Wholes.{told_map, first_stops}
+use Rattle.fr_run.proofs.Wholes.{told_map, first_stops, first_begins}
 use Rattle.fr_run.proofs.session.run_program.Goals as goal
 
 pub run_script-requires-clause-well_formed : goal.run_script-requires-clause-well_formed
@@ -31,5 +31,11 @@ returns-clause-err g c =
     told_map (g.S.Shelf.holds c.args.shelf.now c.args.script.now)
     (λ (file : List ℕ). StopSays c.in-Err-run_script.stop (course_behind (program_of a) (sources (program_of a)) file 0 (state_of a) later) y z)
     (λ (file : List ℕ). StopSays c.in-Err-run_script.stop (program_course p file true) x z)
-    (λ file says. first_stops c.in-Err-run_script.stop p a later x y z file wrote (λ e. c.in-Err-run_script.ensures.unread (ap Err e)) says)
+    (λ file says. first_stops c.in-Err-run_script.stop p a later x y z file wrote c.in-Err-run_script.ensures.unread says)
     c.in-Err-run_script.ensures.err
+
+pub returns-clause-began : goal.returns-clause-began
+returns-clause-began g c e file =
+    let p = c.args.program in
+    let wrote = subst (λ (shows : List Shown). Wrote c.in-Ok-begin.afresh p (instant p (beginning p) first_instant) 0 shows c.begin.new.shows (g.O.Sink.written c.args.out.now) (g.O.Sink.written c.begin.new.out)) c.in-Ok.ensures c.in-Ok-begin.ensures.ok in
+    first_begins p c.in-Ok-begin.afresh c.begin.new.shows _ _ _ file wrote (c.in-Err-run_script.ensures.unread e)
