@@ -1,5 +1,5 @@
 -- A command on its program's file, and a run on its script's.
-use Rattle.std.proofs.Common.{◌≡◌, ◌≢◌, ◌∙◌, ◌⊎◌, inl, inr, ◌≤◌, max, true, false, ℕ, List, [], ◌∷◌, length, take, ap, sym, subst, refl, arith, rules, None, Some, Ok, Err, IfSome, OnOk, IfErr, IsErrOf, Option, Result, codes}
+use Rattle.std.proofs.Common.{◌≡◌, ◌≢◌, ◌∙◌, ◌⊎◌, inl, inr, max, true, false, ℕ, List, [], ◌∷◌, length, take, ap, sym, subst, refl, arith, rules, None, Some, Ok, Err, IfSome, OnOk, IfErr, IsErrOf, Option, Result, codes}
 use Rattle.std.specs.Io.KnownBytes.{Appends}
 use Rattle.std.specs.Str.{bytes_eq}
 use Rattle.std.proofs.lemmas.Slice.Eq.{bytes_eq-Decides}
@@ -14,13 +14,12 @@ use Rattle.fr_show.specs.declared.stop.Stop.TheVariants.{Usage, Script, Evaluati
 use Rattle.fr_show.specs.declared.acceptance.AcceptStop.{AcceptStop}
 use Rattle.fr_show.specs.declared.acceptance.AcceptStop.TheVariants.{Refused, Memory as NoMemory}
 use Rattle.fr_show.specs.Accepted.{IsProgram, Verdict, OnJudged, OnEachJudged}
-use Rattle.fr_show.specs.Course.{Course}
 use Rattle.fr_show.specs.Ends.{EndsThere, StopSays, SaysOn, Begins}
 use Rattle.fr_show.specs.Output.{course_over}
 use Rattle.fr_show.specs.Stops.{Tells, unaccepted}
 use Rattle.fr_show.proofs.Courses.{appends_nothing, nothing_whole}
 use Rattle.fr_show.proofs.Judged.{on_each, on_read, judged_of_front, says_of_front, read_accepted}
-use Rattle.fr_cli.specs.Command.{Command, over_script, check, checked, files_in, AllRead, IsAmong}
+use Rattle.fr_cli.specs.Command.{Command, over_script, check, checked, AllRead, IsAmong}
 use Rattle.fr_cli.specs.Lines.{status_of}
 use Rattle.fr_cli.specs.Obeyed.{IsUnread, Obeys}
 

@@ -91,7 +91,7 @@ fn a_script_of_several_pieces_is_run(rt: HostRuntime) -> Result<(), Fail> {
     let mut script = Vec::from_elem(rt.alloc(), b'\n', 5000)?;
     script.extend_from_slice(SCRIPT.as_bytes())?;
     let left = left_by(rt.alloc(), RUN, &script, [0, 0, 0])?;
-    assert_eq!(rt; left.out.bytes(), b"0 y 2\n5 y 5\n7 y 9\n");
+    assert_eq!(rt; left.out.bytes(), b"0 y 2\n5 y 5\n7 y 9\n".as_slice());
     assert_eq!(rt; left.status, 0);
     Ok(())
 }

@@ -1,4 +1,4 @@
-use Rattle.std.proofs.Common.{◌≡◌, List, ℕ, subst, rules}
+use Rattle.std.proofs.Common.{List, ℕ, subst, rules}
 use Rattle.fr_show.specs.Accepted.{IsProgram}
 use Rattle.fr_show.specs.Stops.{Tells}
 use Rattle.fr_cli.specs.Command.{check}

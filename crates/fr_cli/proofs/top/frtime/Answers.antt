@@ -1,6 +1,5 @@
 use Rattle.std.proofs.Common.{◌∙◌, sym, ap, refl}
-use Rattle.fr_show.specs.declared.stop.Stop.{Stop}
-use Rattle.fr_cli.specs.Command.{asked, Answers}
+use Rattle.fr_cli.specs.Command.{asked}
 use Rattle.fr_cli.specs.Lines.{status_of}
 use Rattle.fr_cli.proofs.Statuses.{is_read, is_write, is_usage, done_whole, says_whole, says_program, says_script, says_errs, says_cut, says_complete, done_complete}
 use Rattle.fr_cli.proofs.Told.{tells_counts}
