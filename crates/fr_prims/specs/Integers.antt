@@ -1,6 +1,7 @@
 -- The primitives on integers.
-use Rattle.std.specs.Prelude.{◌^◌, nat_lt, zero, ℤ, pos, negsuc, ◌+ℤ◌, ◌-ℤ◌, neg_ℤ, Bool, true, false, not, ◌&&◌, if◌then◌else◌, List, [], ◌∷◌, Option, Some, None, Result, Ok, Err}
+use Rattle.std.specs.Prelude.{zero, ℤ, pos, negsuc, ◌+ℤ◌, ◌-ℤ◌, neg_ℤ, Bool, true, false, not, ◌&&◌, if◌then◌else◌, List, [], ◌∷◌, Option, Some, None, Result, Ok, Err}
 use Rattle.std.specs.Int.RustNames.{int_rem}
+use Rattle.fr_value.specs.Valid.{fits}
 use Rattle.fr_value.specs.declared.value.Value.{Value}
 use Rattle.fr_value.specs.declared.value.Value.TheVariants as value
 use Rattle.fr_value.specs.declared.now.Bad.{Bad}
@@ -51,11 +52,6 @@ all_pass test (v ∷ vs) = test v && all_pass test vs
 -- what is given where all arguments pass a test on their type
 abbrev pub typed : (Value → Bool) → List Value → Answer → Answer
 typed test vs answer = if all_pass test vs then answer else Err WrongType
-
--- a number lies in the signed 64-bit range
-abbrev pub fits : ℤ → Bool
-fits (pos n) = nat_lt n (2 ^ 63)
-fits (negsuc n) = nat_lt n (2 ^ 63)
 
 -- a number, where it lies in the range
 abbrev pub fitting : ℤ → Option ℤ
