@@ -5,7 +5,6 @@ pub mod Validity
 pub mod Measured
 pub mod Limits
 pub mod Items
-pub mod Gets
 pub mod Runs
 pub mod Parts
 pub mod Equal

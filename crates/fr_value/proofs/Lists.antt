@@ -1,10 +1,10 @@
 -- The size and depth of the first items of a list.
-use Rattle.std.proofs.Common.{◌≡◌, ℕ, true, ◌&&◌, ◌+◌, ◌≤◌, ◌<◌, List, [], ◌∷◌, length, drop, get_or, map, max, refl, ap, sym, subst, ◌∙◌, arith, zero, suc, drop-cons, add-one, ◌⊎◌, inl, inr}
-use Rattle.std.proofs.lemmas.List.{get_or-map, drop_all}
+use Rattle.std.proofs.Common.{◌≡◌, ℕ, true, ◌&&◌, ◌+◌, ◌≤◌, ◌<◌, List, [], ◌∷◌, length, drop, get_or, map, max, refl, ap, sym, ◌∙◌, arith, zero, suc, drop-cons, add-one, ◌⊎◌, inl, inr}
+use Rattle.std.proofs.lemmas.List.{drop_all}
 use Rattle.fr_value.specs.declared.value.Value.{Value}
 use Rattle.fr_value.specs.declared.value.Datum.{Datum}
 use Rattle.fr_value.specs.Valid.{is_valid, are_valid}
-use Rattle.fr_value.specs.Data.{data_of, data_size, data_depth, datum_of, datum_size, datum_depth, value_size, value_depth, size-of, depth-of, total, greatest, AreFew, datum_one}
+use Rattle.fr_value.specs.Data.{data_of, data_size, data_depth, datum_of, datum_size, datum_depth, value_size, value_depth, size-of, depth-of, total, greatest, AreFew}
 
 abbrev pub rest_of : List Value → ℕ → List Datum
 rest_of vs i = data_of (drop i vs)
@@ -37,26 +37,8 @@ done vs i size depth h s =
     let e : rest_of vs i ≡ [] = rw (drop_all i vs h) refl in
     (omega (arith, rw e at s.sized), omega (arith, s.one, rw e at s.deep), s.valid ∙ ap are_valid e)
 
-pub start : (vs : List Value) → Split vs 0 1 1
-start vs = record { sized = refl; one = omega arith; deep = omega arith; valid = refl }
-
--- lists of equal data have equal items
-pub item_same : (xs ys : List Value) (i : ℕ) (x y : Value) → i < length xs → i < length ys → x ≡ get_or xs i x → y ≡ get_or ys i y → data_of xs ≡ data_of ys → x ≡ y
-item_same xs ys i x y h k ex ey e = datum_one x y (
-    ap datum_of ex ∙ sym (get_or-map datum_of xs i x (datum_of x) h)
-    ∙ ap (λ l. get_or l i (datum_of x)) e
-    ∙ get_or-map datum_of ys i y (datum_of x) k ∙ ap datum_of (sym ey))
-
--- what is left of a list that is few is few
-pub few_behind : (vs : List Value) (v : Value) → AreFew (data_of (v ∷ vs)) → AreFew (data_of vs)
-few_behind vs v few = (omega (arith, few.0), omega (arith, few.1))
-
 -- an item is smaller than its list
 pub item_smaller : (vs : List Value) (i : ℕ) (v : Value) → i < length vs → v ≡ get_or vs i v → value_size v + 1 ≤ data_size (data_of vs)
 item_smaller [] i v h e = absurd (omega (arith, h))
 item_smaller (w ∷ vs) zero v h e = omega (arith, ap value_size e, size-of w)
 item_smaller (w ∷ vs) (suc i) v h e = omega (arith, item_smaller vs i v (omega (arith, h)) e)
-
--- what is left of a list within the limits is within them
-pub few_tail : (vs : List Value) (v : Value) (tail : List Value) → AreFew (data_of vs) → vs ≡ v ∷ tail → AreFew (data_of tail)
-few_tail vs v tail few e = few_behind tail v (subst (λ x. AreFew (data_of x)) e few)

@@ -1,7 +1,7 @@
 -- Texts that are appended piece by piece.
-use Rattle.std.specs.Prelude.{ℕ, suc, zero, ◌+◌, ◌<◌, ◌≤◌, ◌≡◌, List, [], ◌∷◌, ◌++◌, length, map, take, drop, get_or, slice_get, Option, Some, None, Result, Ok, Err, OnOk, OnErr, is_ok, if◌then◌else◌}
+use Rattle.std.specs.Prelude.{ℕ, suc, zero, ◌+◌, ◌<◌, ◌≡◌, List, [], ◌∷◌, ◌++◌, length, map, take, drop, get_or, slice_get, Option, Some, None, Result, Ok, Err, OnOk, OnErr, is_ok, if◌then◌else◌}
 use Rattle.std.proofs.Common.{refl, sym, ◌∙◌, ap, subst, arith, add-one}
-use Rattle.std.proofs.lemmas.List.{append_assoc, append-nil, take-append-drop, drop_all}
+use Rattle.std.proofs.lemmas.List.{append_assoc, append-nil, take-append-drop}
 use Rattle.fr_value.specs.declared.value.Datum.{Datum}
 use Rattle.fr_value.specs.declared.value.Value.{Value}
 use Rattle.fr_value.specs.declared.value.Value.TheVariants as value
@@ -33,10 +33,6 @@ on_err_then (Err e) f h = f h
 pub on_ok_then : {T E : Type 0} (r : Result T E) (new mid more : List ℕ) (P : Type 0) → new ≡ (if is_ok r then mid ++ more else mid) → (new ≡ mid ++ more → P) → OnOk r P
 on_ok_then (Ok x) new mid more P h f = f h
 on_ok_then (Err e) new mid more P h f = tt
-
--- nothing was appended
-pub part_none : (old new text : List ℕ) → new ≡ old → AppendsPart old new text
-part_none old new text h = ([], text, h ∙ sym (append-nil old), refl)
 
 -- a part of the first piece
 pub part_first : (old new text more : List ℕ) → AppendsPart old new text → AppendsPart old new (text ++ more)
@@ -124,9 +120,6 @@ behind_data-append (d ∷ a) b = ap (λ x. 32 ∷ datum_text d ++ x) (behind_dat
 abbrev pub Walk : List ℕ → List ℕ → List Datum → ℕ → Type 0
 Walk old mid ds i = (done : List ℕ) × (mid ≡ old ++ done) × (done ++ behind_data (drop i ds) ≡ behind_data (drop 1 ds))
 
-pub walk_start : (old : List ℕ) (ds : List Datum) → Walk old old ds 1
-walk_start old ds = ([], sym (append-nil old), refl)
-
 run_text : (ds : List Datum) (i : ℕ) (v : Value) (vs : List Value) → IsRun ds i v vs → behind_data (drop i ds) ≡ behind_texts (v ∷ vs) ++ behind_data (drop (i + 1 + length vs) ds)
 run_text ds i v vs r = ap behind_data r ∙ behind_data-append (data_of (v ∷ vs)) (drop (i + 1 + length vs) ds)
 
@@ -140,9 +133,6 @@ pub walk_part : (old mid new : List ℕ) (ds : List Datum) (i : ℕ) (v : Value)
 walk_part old mid new ds i v vs w r h =
     let rest = behind_data (drop (i + 1 + length vs) ds) in
     subst (AppendsPart old new) (ap (λ x. w.0 ++ x) (sym (run_text ds i v vs r)) ∙ w.2) (part_between old mid new w.0 (behind_texts (v ∷ vs)) rest w.1 h)
-
-pub walk_done : (old mid : List ℕ) (ds : List Datum) (i : ℕ) → Walk old mid ds i → length ds ≤ i → mid ≡ old ++ behind_data (drop 1 ds)
-walk_done old mid ds i w h = w.1 ∙ ap (λ x. old ++ x) (sym (append-nil w.0) ∙ ap (λ x. w.0 ++ behind_data x) (sym (drop_all i ds h)) ∙ w.2)
 
 -- the first item, and the others
 pub first_is : (ds : List Datum) (d : Datum) → Some d ≡ slice_get ds 0 → ds ≡ d ∷ drop 1 ds
@@ -194,6 +184,3 @@ run_others old mid first new v vs e f h = part_behind old first new (32 ∷ datu
 
 pub string_text : (v : Value) (s text bytes : List ℕ) → v ≡ value.Str s → text ≡ s → bytes ≡ text → 34 ∷ escaped bytes ++ 34 ∷ [] ≡ datum_text (datum_of v)
 string_text v s text bytes e h k = ap (λ x. 34 ∷ escaped x ++ 34 ∷ []) (k ∙ h) ∙ sym (text-Str s) ∙ ap (λ x. datum_text (datum_of x)) (sym e)
-
-pub list_text : (v : Value) (ds : List Datum) → v ≡ value.List ds → 40 ∷ spaced (map datum_text ds) ++ 41 ∷ [] ≡ datum_text (datum_of v)
-list_text v ds e = sym (text-Seq ds) ∙ ap (λ x. datum_text (datum_of x)) (sym e)

@@ -1,10 +1,22 @@
 -- Items that stand side by side.
-use Rattle.std.proofs.Common.{◌≡◌, ℕ, ◌+◌, ◌-◌, ◌≤◌, ◌<◌, List, [], ◌∷◌, ◌++◌, length, drop, take, get_or, arith, sym, ap, ◌∙◌, subst, zero, suc, append_assoc, length-append}
-use Rattle.std.proofs.lemmas.List.{length-map, length-drop, drop-append-le, drop_all, take_all, append-nil, drop-map, take-append-drop}
+use Rattle.std.proofs.Common.{◌≡◌, ℕ, ◌+◌, ◌-◌, ◌≤◌, ◌<◌, List, [], ◌∷◌, ◌++◌, length, drop, take, get_or, arith, sym, ap, ◌∙◌, subst, zero, suc, append_assoc, length-append, Some, map, refl}
+use Rattle.std.proofs.Math.Numerals.{one-add}
+use Rattle.std.proofs.Math.Seq.{take-add}
+use Rattle.std.proofs.lemmas.List.{length-map, length-drop, drop-append-le, take-append-le, drop_all, take_all, append-nil, drop-map, take-map, take-append-drop, map-append}
+use Rattle.std.specs.List.{slice_get}
+use Rattle.std.specs.Borrow.{Bor}
 use Rattle.fr_value.specs.declared.value.Value.{Value}
 use Rattle.fr_value.specs.declared.value.Datum.{Datum}
-use Rattle.fr_value.specs.Data.{datum_of, data_of, data_size, total-append, tree_data, IsRun}
+use Rattle.fr_value.specs.Data.{datum_of, data_of, data_size, datum_one, value_of, value_of-datum_of, total-append, tree_data, seen, IsRun}
 use Rattle.fr_value.proofs.Lists.{at_front}
+
+values_back : (vs : List Value) → map value_of (data_of vs) ≡ vs
+values_back [] = refl
+values_back (v ∷ vs) = rw (value_of-datum_of v, values_back vs) refl
+
+-- values of the same data are the same
+pub data_one : (vs ws : List Value) → data_of vs ≡ data_of ws → vs ≡ ws
+data_one vs ws e = sym (values_back vs) ∙ ap (map value_of) e ∙ values_back ws
 
 none_left : (ks : List Datum) (n : ℕ) → n ≡ 0 → drop n ks ≡ ks
 none_left ks n h = ap (λ k. drop k ks) h
@@ -87,3 +99,61 @@ part_shorter fs ms xs ys ds e s = omega (arith, ap length e, ap length s, length
 pub run_smaller : (ds : List Datum) (at : ℕ) (v : Value) (vs : List Value) → IsRun ds at v vs → data_size (data_of (v ∷ vs)) ≤ data_size ds
 run_smaller ds at v vs r =
     omega (arith, ap data_size r, ap data_size (take-append-drop at ds), total-append (take at ds) (drop at ds), total-append (data_of vs) (drop (at + 1 + length vs) ds))
+
+drop_get : (ds : List Datum) (i : ℕ) (d : Datum) (es : List Datum) → drop i ds ≡ d ∷ es → slice_get ds i ≡ Some d
+drop_get [] zero d es h = cc
+drop_get [] (suc i) d es h = cc
+drop_get (x ∷ xs) zero d es h = cc
+drop_get (x ∷ xs) (suc i) d es h = drop_get xs i d es h
+
+-- the item that a run begins with
+pub run_get : (ds : List Datum) (at : ℕ) (v : Value) (vs : List Value) → IsRun ds at v vs → slice_get ds at ≡ Some (datum_of v)
+run_get ds at v vs r = drop_get ds at (datum_of v) (data_of vs ++ drop (at + 1 + length vs) ds) r
+
+front_of : (d : Datum) (vs : List Value) (ds : List Datum) (n : ℕ) → n ≤ length vs → take (1 + n) (d ∷ (data_of vs ++ ds)) ≡ d ∷ data_of (take n vs)
+front_of d vs ds n h =
+    let near : n ≤ length (data_of vs) = omega (arith, h, length-map vs datum_of) in
+    ap (λ k. take k (d ∷ (data_of vs ++ ds))) (one-add n) ∙ ap (λ x. d ∷ x) (take-append-le n (data_of vs) ds near ∙ take-map datum_of n vs)
+
+-- the items up to some of a run's
+pub take_run : (ds : List Datum) (at : ℕ) (v : Value) (vs : List Value) (n : ℕ) → IsRun ds at v vs → n ≤ length vs → take (at + (1 + n)) ds ≡ take at ds ++ (datum_of v ∷ data_of (take n vs))
+take_run ds at v vs n r h =
+    take-add at (1 + n) ds ∙ ap (λ x. take at ds ++ x) (ap (take (1 + n)) r ∙ front_of (datum_of v) vs (drop (at + 1 + length vs) ds) n h)
+
+-- a run was added to the items in front of it
+pub gathered : (old out new ds : List Datum) (at n : ℕ) (v : Value) (vs : List Value) → out ≡ old ++ take at ds → IsRun ds at v vs → new ≡ out ++ data_of (v ∷ vs) → n ≡ at + (1 + length vs) → new ≡ old ++ take n ds
+gathered old out new ds at n v vs e r h k =
+    let all : take (length vs) vs ≡ vs = take_all (length vs) vs (omega arith) in
+    let more : take n ds ≡ take at ds ++ data_of (v ∷ vs) = ap (λ m. take m ds) k ∙ take_run ds at v vs (length vs) r (omega arith) ∙ ap (λ x. take at ds ++ (datum_of v ∷ data_of x)) all in
+    h ∙ ap (λ x. x ++ data_of (v ∷ vs)) e ∙ append_assoc old (take at ds) (data_of (v ∷ vs)) ∙ ap (λ x. old ++ x) (sym more)
+
+-- two lists that are the same up to an index, and so are runs there, for some items
+pub same_next : (ds es : List Datum) (at n m : ℕ) (v w : Value) (vs ws : List Value) → IsRun ds at v vs → IsRun es at w ws → n ≤ length vs → n ≤ length ws
+    → v ≡ w → take n vs ≡ take n ws → take at ds ≡ take at es → m ≡ at + (1 + n) → take m ds ≡ take m es
+same_next ds es at n m v w vs ws r q h k e f t l =
+    let a : take m ds ≡ take at ds ++ data_of (v ∷ take n vs) = ap (λ m. take m ds) l ∙ take_run ds at v vs n r h in
+    let b : take m es ≡ take at es ++ data_of (w ∷ take n ws) = ap (λ m. take m es) l ∙ take_run es at w ws n q k in
+    a ∙ ap (λ x. x ++ data_of (v ∷ take n vs)) t ∙ ap (λ x. take at es ++ (datum_of x ∷ data_of (take n vs))) e ∙ ap (λ x. take at es ++ (datum_of w ∷ data_of x)) f ∙ sym b
+
+-- runs at one index of a list are the same as far as both reach
+pub run_same : (ds es : List Datum) (at n : ℕ) (v w : Value) (vs ws : List Value) → IsRun ds at v vs → IsRun es at w ws → n ≤ length vs → n ≤ length ws → ds ≡ es → (v ≡ w) × (take n vs ≡ take n ws)
+run_same ds es at n v w vs ws r q h k e =
+    let a = drop (at + 1 + length vs) ds in
+    let b = drop (at + 1 + length ws) es in
+    let same : datum_of v ∷ data_of (take n vs) ≡ datum_of w ∷ data_of (take n ws) =
+    sym (front_of (datum_of v) vs a n h) ∙ ap (take (1 + n)) (sym r ∙ ap (drop at) e ∙ q) ∙ front_of (datum_of w) ws b n k in
+    let first : datum_of v ≡ datum_of w = cc in
+    let others : data_of (take n vs) ≡ data_of (take n ws) = cc in
+    (datum_one v w first, data_one (take n vs) (take n ws) others)
+
+-- the first of some values are not more than all
+pub taken_smaller : (vs : List Value) (n : ℕ) → data_size (data_of (take n vs)) ≤ data_size (data_of vs)
+taken_smaller vs n = omega (arith, ap data_size (ap data_of (sym (take-append-drop n vs)) ∙ map-append datum_of (take n vs) (drop n vs)), total-append (data_of (take n vs)) (data_of (drop n vs)))
+
+-- the values of a run were added
+pub with_run : (out mid new : List Value) (w v : Value) (vs : List Value) → mid ≡ out ++ w ∷ [] → w ≡ v → new ≡ mid ++ vs → data_of new ≡ data_of out ++ data_of (v ∷ vs)
+with_run out mid new w v vs h e k = rw (k, h, e, append_assoc out (v ∷ []) vs, map-append datum_of out (v ∷ vs)) refl
+
+-- references to them were
+pub seen_run : (out mid : List (Bor Value)) (new : List (Bor Value)) (v : Bor Value) (vs : List Value) → mid ≡ out ++ v ∷ [] → seen new ≡ seen mid ++ data_of vs → seen new ≡ seen out ++ data_of (v.now ∷ vs)
+seen_run out mid new v vs h k = k ∙ ap (λ x. x ++ data_of vs) (ap seen h ∙ map-append (λ (b : Bor Value). datum_of b.now) out (v ∷ [])) ∙ append_assoc (seen out) (datum_of v.now ∷ []) (data_of vs)

@@ -10,11 +10,11 @@ use Rattle.std.specs.Borrow.{Bor}
 use Rattle.fr_value.specs.Valid.{are_valid}
 use Rattle.fr_value.specs.declared.value.Value.{Value}
 use Rattle.fr_value.specs.declared.value.Value.TheVariants as value
-use Rattle.fr_value.specs.declared.value.Block.{Block}
-use Rattle.fr_value.specs.declared.value.More.{More}
-use Rattle.fr_value.specs.declared.value.More.TheVariants as more
-use Rattle.fr_value.specs.declared.value.Kids.{Kids}
-use Rattle.fr_value.specs.declared.value.Kids.TheVariants as kids
+use Rattle.fr_value.specs.declared.list.Block.{Block}
+use Rattle.fr_value.specs.declared.list.More.{More}
+use Rattle.fr_value.specs.declared.list.More.TheVariants as more
+use Rattle.fr_value.specs.declared.tree.Kids.{Kids}
+use Rattle.fr_value.specs.declared.tree.Kids.TheVariants as kids
 
 -- the datum that a value is
 abbrev pub datum_of : Value → Datum

@@ -4,12 +4,12 @@ use Rattle.std.proofs.Common.{arith}
 use denote.Param.Weighed.{most}
 use Rattle.fr_value.specs.declared.value.Value.{Value}
 use Rattle.fr_value.specs.declared.value.Value.TheVariants as value
-use Rattle.fr_value.specs.declared.value.Block.{Block}
-use Rattle.fr_value.specs.declared.value.More.{More}
-use Rattle.fr_value.specs.declared.value.More.TheVariants as more
-use Rattle.fr_value.specs.declared.value.Kids.{Kids}
-use Rattle.fr_value.specs.declared.value.Kids.TheVariants as kids
-use Rattle.fr_value.specs.declared.value.List.TheDeep.{deep-Value, deep-Kids, deep-More, deep-Block}
+use Rattle.fr_value.specs.declared.list.Block.{Block}
+use Rattle.fr_value.specs.declared.list.More.{More}
+use Rattle.fr_value.specs.declared.list.More.TheVariants as more
+use Rattle.fr_value.specs.declared.tree.Kids.{Kids}
+use Rattle.fr_value.specs.declared.tree.Kids.TheVariants as kids
+use Rattle.fr_value.specs.declared.list.List.TheDeep.{deep-Value, deep-Kids, deep-More, deep-Block}
 use Rattle.fr_value.specs.Data.{data_of, data_size, datum_of, datum_size, seq_size, datum_positive, total-append, kids_data, more_data}
 
 falls_one : (v : Value) → deep-Value v ≤ 2 * datum_size (datum_of v) + 2

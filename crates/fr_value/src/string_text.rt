@@ -2,12 +2,10 @@ ghost use Rattle.std.specs.Prelude.{◌≡◌, ℕ, List, ◌≤◌, IfOk, lengt
 ghost use Rattle.std.specs.Str.{is_utf8};
 ghost use Rattle.std.specs.Rc.{rc_str_bytes};
 
+use crate::bounds::MAX_TEXT_BYTES;
 use std::alloc::{AllocError, Global};
 use std::marker::Model;
 use std::rc::RcStr;
-
-/// The most bytes that a symbol or a string may have.
-pub const MAX_TEXT_BYTES: usize = 1_048_575;
 
 /// A shared text of at most `MAX_TEXT_BYTES` bytes, as a string's content. Contracts see its bytes.
 #[derive(Debug, Drop)]

@@ -1,8 +1,9 @@
 ghost use Rattle.std.specs.Prelude.{◌≡◌, ◌≤◌, IfOk, length, IsTrue, ◌↔◌, true, false, Err};
 ghost use Rattle.fr_value.specs.Bytes.{is_name, is_short};
 
+use crate::bounds::MAX_TEXT_BYTES;
 use crate::names::symbol;
-use crate::string_text::{MAX_TEXT_BYTES, Text};
+use crate::string_text::Text;
 use std::alloc::{AllocError, Global};
 use std::marker::Model;
 

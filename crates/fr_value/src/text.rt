@@ -2,7 +2,8 @@ ghost use Rattle.std.specs.Prelude.{◌≡◌, ℕ, List as PlainList, ◌++◌,
 ghost use Rattle.fr_value.specs.Data.{data_of, datum_of};
 ghost use Rattle.fr_value.specs.Text.{datum_text, escaped, escaped_byte, spaced, behind_texts, behind_data, AppendsPart};
 
-use crate::value::{List, Value};
+use crate::list::List;
+use crate::value::Value;
 use itoa::Buffer;
 use std::alloc::AllocError;
 

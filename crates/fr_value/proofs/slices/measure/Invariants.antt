@@ -1,0 +1,10 @@
+use Rattle.std.proofs.Common.{◌≤◌}
+use Rattle.fr_value.proofs.Lists.{Split}
+use Rattle.fr_value.proofs.slices.measure.Given as goal
+
+abbrev pub invariant-loop-v : goal.invariant-loop-v
+invariant-loop-v l = record {
+  so_far : Split l.items l.v-index l.size l.depth;
+  small : l.size ≤ 1048576;
+  shallow : l.depth ≤ 64;
+}
