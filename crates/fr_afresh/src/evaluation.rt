@@ -63,16 +63,7 @@ pub fn eval(
             body.get(),
             kept,
         ),
-        Core::If(test, a, b) => eval_if(
-            alloc,
-            at,
-            below,
-            env,
-            test.get(),
-            a.get(),
-            b.get(),
-            kept,
-        ),
+        Core::If(test, a, b) => eval_if(alloc, at, below, env, test.get(), a.get(), b.get(), kept),
         Core::Apply(id, args) => eval_call(alloc, at, below, env, id.0, args.as_slice(), kept),
         Core::Operator(operator, exprs) => eval_operator(
             alloc,
@@ -265,7 +256,17 @@ fn eval_handler(
     let Parts { values, around } = eval_parts(alloc, at, left, env, exprs, before)?;
     match begin_handler(alloc, handler, kept_cell(kind, kept), values.as_slice())? {
         Begun::Gives(line) => line_done(alloc, around, line),
-        Begun::Asks(args) => eval_asked(alloc, at, left, env, handler, exprs.len(), body, around, args),
+        Begun::Asks(args) => eval_asked(
+            alloc,
+            at,
+            left,
+            env,
+            handler,
+            exprs.len(),
+            body,
+            around,
+            args,
+        ),
     }
 }
 
@@ -288,7 +289,14 @@ fn eval_asked(
     let outer = env.len();
     env.append(args)?;
     let done = eval(alloc, at, left, env, body, None)?;
-    let ended = handled(alloc, handler, around, number, behind(env.as_slice(), outer), done)?;
+    let ended = handled(
+        alloc,
+        handler,
+        around,
+        number,
+        behind(env.as_slice(), outer),
+        done,
+    )?;
     cut(env, outer);
     Ok(ended)
 }
@@ -337,11 +345,13 @@ fn eval_turns(
         first: None,
     };
     let mut rest = rounds;
-    while let Some(Round {
-        number,
-        item,
-        behind,
-    }) = rest.next()
+    while let Some(
+        Round {
+            number,
+            item,
+            behind,
+        },
+    ) = rest.next()
     {
         so_far = eval_turn(alloc, at, left, env, body, number, so_far, item)?;
         rest = behind;

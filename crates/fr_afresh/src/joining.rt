@@ -125,7 +125,12 @@ pub fn no_parts(alloc: Global) -> Parts
 
 /// The parts so far, and behind them what the part of this number keeps and its first error. It fails only where there
 /// is no memory.
-pub fn with_kept(around: Around, number: usize, kept: Kept, inner: First) -> Result<Around, AllocError>
+pub fn with_kept(
+    around: Around,
+    number: usize,
+    kept: Kept,
+    inner: First,
+) -> Result<Around, AllocError>
     ensures { IfOk result (λ a. a ≡ joined around number kept inner) }
 {
     let Around { mut kepts, first } = around;

@@ -59,11 +59,7 @@ pub fn behind(env: &[Seen], outer: usize) -> &[Seen]
 
 /// Puts the accumulator of a loop behind the variables in scope, and the item, where the turn goes over one. It fails
 /// only where there is no memory.
-pub fn bind_turn(
-    env: &mut Items<Seen>,
-    acc: Seen,
-    item: Option<&Value>,
-) -> Result<(), AllocError>
+pub fn bind_turn(env: &mut Items<Seen>, acc: Seen, item: Option<&Value>) -> Result<(), AllocError>
     ensures { OnOk result (env.new ≡ env.old ++ acc ∷ bound item.entry) }
 {
     env.push(acc)?;

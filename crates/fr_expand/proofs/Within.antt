@@ -74,7 +74,7 @@ module _ {functions sources n : ℕ} where
       let parts : parts_in (out-Core c) ≡ map (λ (y : ℕ × Core). y.1) (outer es ++ (k, b) ∷ []) = ap parts_in x ∙ ap (map (λ (y : ℕ × Core). y.1)) i in
       let counted = count-opens c ∙ ap (λ ps. 1 + total (map count ps)) parts ∙ ap (λ y. 1 + y) (total-body count es k b) in
       let lists = longest-opens c ∙ ap (λ ps. max (entries (out-Core c)) (greatest (map longest ps))) parts ∙ ap (λ y. max (entries (out-Core c)) y) (greatest-body longest es k b)
-          ∙ ap (λ y. max (entries y) (max (greatest (map longest es)) (longest b))) x in
+      ∙ ap (λ y. max (entries y) (max (greatest (map longest es)) (longest b))) x in
       let binds = widest-opens c ∙ ap (λ y. greatest (map (λ (z : ℕ × Core). z.0 + widest z.1) (inner y))) x ∙ ap (λ ps. greatest (map (λ (z : ℕ × Core). z.0 + widest z.1) ps)) i ∙ widest-body widest es k b in
       record {
         scoped = scoped-opens functions sources c n ∙ rw (x, s, i, all_at-body (is_scoped functions sources) n es k b) (both_true _ _ h.scoped j.scoped);

@@ -44,10 +44,7 @@ fn any_twice(alloc: Global, names: &[Symbol]) -> Result<bool, AllocError>
 }
 
 /// What is wrong with names that are bound together.
-pub(crate) fn binding_faults(
-    alloc: Global,
-    names: Names<'_>,
-) -> Result<Faults, AllocError>
+pub(crate) fn binding_faults(alloc: Global, names: Names<'_>) -> Result<Faults, AllocError>
     ensures { IfOk result (λ f. f ≡ binding_faults (names_of names.entry)) }
 {
     match names {

@@ -156,10 +156,7 @@ fn item_of(
         Form::Define(_, expr) => Ok(Some(Item::Define(core_in(alloc, globals, values, expr)?))),
         Form::Show(name, expr) => {
             let name = name.share()?;
-            Ok(Some(Item::Show(
-                name,
-                core_in(alloc, globals, values, expr)?,
-            )))
+            Ok(Some(Item::Show(name, core_in(alloc, globals, values, expr)?)))
         }
         Form::Input(..) | Form::Event(_) | Form::Function(..) => Ok(None),
     }

@@ -23,4 +23,4 @@ item_next ev k n p (item.Show name e) is = simp (append_assoc, or_assoc)
 pub returns : goal.returns
 returns c = λ is.
     rw (c.in_ok-next.ensures, c.in_ok-done.ensures.env, c.in_ok-done.ensures.value, c.kept_part-before.ensures, c.expr_of.ensures)
-        (item_next (here c.args.at.now 2000) c.args.kept.now c.args.number c.args.so_far c.args.item.now is)
+    (item_next (here c.args.at.now 2000) c.args.kept.now c.args.number c.args.so_far c.args.item.now is)
