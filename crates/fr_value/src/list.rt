@@ -12,8 +12,11 @@ use std::alloc::{AllocError, Global};
 use std::marker::Model;
 use std::rc::Rc;
 
-// how many items a list keeps in front of its trees, and a tree behind its root
+// how many items a list keeps in front of its trees at most, and a tree made by `cons` behind its root
 const CHUNK: usize = 8;
+
+// how many items a tree made of a vector has at most, beside those of the trees below it
+const LEAF: usize = 63;
 
 /// An immutable proper list, of size at most 1,048,576 and depth at most 64.
 ///
@@ -168,7 +171,7 @@ impl List {
     {
         match measure(&items) {
             None => Err(ListRefusal::TooBig),
-            Some(_) => Ok(few_of_vec(alloc, items)?),
+            Some(_) => Ok(laid_out(alloc, items, More::Zero)?),
         }
     }
 
@@ -300,15 +303,15 @@ fn without_root(alloc: Global, tree: &Tree, rest: &List) -> Result<List, AllocEr
 {
     match &tree.kids {
         Kids::Zero => match &rest.block {
-            None => block_of(alloc, shared(alloc, &tree.chunk)?, More::Zero),
+            None => laid_out(alloc, shared(alloc, &tree.chunk)?, More::Zero),
             Some(b) => {
                 let front = joined(alloc, &tree.chunk, &b.front)?;
-                block_of(alloc, front, b.more.share()?)
+                laid_out(alloc, front, b.more.share()?)
             }
         },
         Kids::Two(a, b) => {
             let behind = block_of(alloc, Vec::new(alloc), More::Row(b.clone()?, rest.share()?))?;
-            block_of(
+            laid_out(
                 alloc,
                 shared(alloc, &tree.chunk)?,
                 More::Row(a.clone()?, behind),
@@ -345,15 +348,18 @@ fn in_front(alloc: Global, item: Value, others: &[Value]) -> Result<Vec<Value>, 
     Ok(v)
 }
 
-/// The list of these items.
-fn few_of_vec(alloc: Global, items: Vec<Value>) -> Result<List, AllocError>
-    requires { AreFew (data_of items.items) }
-    ensures { IfOk result (λ l. l ≡ data_of items.items) }
+/// The list of these items, and those behind them.
+///
+/// The last items are put in trees, until few are left in front.
+fn laid_out(alloc: Global, items: Vec<Value>, more: More) -> Result<List, AllocError>
+    requires { AreFew (data_of items.items ++ more_data more) }
+    ensures { IfOk result (λ l. l ≡ data_of items.items ++ more_data more) }
 {
     let mut items = items;
-    let mut more = More::Zero;
+    let mut more = more;
     while items.len() > CHUNK {
-        let chunk = items.split_off(items.len() - CHUNK)?;
+        let kept = items.len().saturating_sub(LEAF).max(CHUNK);
+        let chunk = items.split_off(kept + 1)?;
         match items.pop() {
             Some(item) => {
                 more = row_of(alloc, item, chunk, more)?;
