@@ -3,6 +3,7 @@ pub mod Lists
 pub mod Meet
 pub mod Validity
 pub mod Measured
+pub mod Reversed
 pub mod Limits
 pub mod Items
 pub mod Runs

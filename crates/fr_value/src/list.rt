@@ -3,6 +3,7 @@ ghost use Rattle.fr_value.specs.Data.{data_of, data_size, data_depth, datum_of, 
 ghost use Rattle.fr_value.specs.Valid.{are_valid};
 
 mod items;
+mod joins;
 
 use crate::bounds::{MAX_DEPTH, MAX_SIZE};
 use crate::slices::{joined, measure, measure_few, push_shared, shared};
@@ -16,7 +17,7 @@ use std::rc::Rc;
 const CHUNK: usize = 8;
 
 // how many items a tree made of a vector has at most, beside those of the trees below it
-const LEAF: usize = 63;
+const LEAF: usize = 36;
 
 /// An immutable proper list, of size at most 1,048,576 and depth at most 64.
 ///
@@ -31,8 +32,9 @@ pub struct List {
     depth: u32,
 }
 
-// A list is its first items in one vector, and then a row of trees, each of an item and a vector behind it. Two trees
-// of one length are joined under the next one, so that the row and the trees stay short. No clause rests on the lengths.
+// A list is its first items in one vector, and then a row of trees, each of an item and a vector behind it. The first two
+// trees are joined under the next one, unless the second is more than twice as long: so each tree behind the first is longer
+// than the one before it, by a part of its length, and the row and the trees stay short. No clause rests on the lengths.
 /// The first items of a list, and those behind them.
 #[cycle(value)]
 #[derive(Drop)]
@@ -268,7 +270,8 @@ fn block_of(alloc: Global, front: Vec<Value>, more: More) -> Result<List, AllocE
     })
 }
 
-/// The first two trees and the list behind them, if they are of one length; else no tree, and the list of all.
+/// The first two trees and the list behind them, unless the second is more than twice as long; else no tree, and the
+/// list of all.
 fn front_of(alloc: Global, more: More) -> Result<(Kids, List), AllocError>
     requires { AreFew (more_data more) }
     ensures { IfOk result (λ p. kids_data p.0 ++ p.1 ≡ more_data more) }
@@ -277,7 +280,7 @@ fn front_of(alloc: Global, more: More) -> Result<(Kids, List), AllocError>
         let rest = rest;
         if let Some(b) = &rest.block {
             if let More::Row(c, behind) = &b.more {
-                if b.front.is_empty() && a.len() == c.len() {
+                if b.front.is_empty() && c.len() / 2 <= a.len() {
                     return Ok((Kids::Two(a.clone()?, c.clone()?), behind.share()?));
                 }
             }
