@@ -1,5 +1,6 @@
-ghost use Rattle.std.specs.Prelude.{◌≡◌, ◌++◌, ◌∷◌, IfOk, OnOk, Ok, pos, length, reverse, nat_le, slice_get, ◌+◌, ◌≤◌};
-ghost use Rattle.fr_value.specs.Data.{data_of, datum_of, data_size};
+ghost use Rattle.std.specs.Prelude.{◌≡◌, ◌++◌, ◌∷◌, IfOk, Ok, Err, pos, length, reverse, slice_get};
+ghost use Rattle.fr_value.specs.Data.{data_of, datum_of, AreFew};
+ghost use Rattle.fr_value.specs.declared.list.ListRefusal.TheVariants as ListRefusal;
 ghost use Rattle.fr_value.specs.declared.value.Value.TheVariants as value;
 ghost use Rattle.fr_prims.specs.Integers.{one, two, on_integer};
 ghost use Rattle.fr_prims.specs.Data.{list_answer, on_list, car as car_of, cdr as cdr_of, list_ref, item_answer, joined, items_of, appended};
@@ -7,17 +8,6 @@ ghost use Rattle.fr_prims.specs.Data.{list_answer, on_list, car as car_of, cdr a
 use crate::kinds::{Answer, Kind, all_of};
 use fr_value::{Bad, List, ListRefusal, Value};
 use std::alloc::{AllocError, Global};
-
-/// The list of these items, which it takes over; TooBig where it is beyond the limits.
-fn list_of(alloc: Global, items: Vec<Value>) -> Result<Answer, AllocError>
-    ensures { IfOk result (λ r. r ≡ list_answer (data_of items.items)) }
-{
-    match List::of_vec(alloc, items) {
-        Ok(list) => Ok(Ok(Value::List(list))),
-        Err(ListRefusal::TooBig) => Ok(Err(Bad::TooBig)),
-        Err(ListRefusal::Memory(e)) => Err(e),
-    }
-}
 
 /// The list of the arguments.
 pub(crate) fn list(alloc: Global, args: &[Value]) -> Result<Answer, AllocError>
@@ -117,54 +107,44 @@ pub(crate) fn length_of(args: &[Value]) -> Answer
     }
 }
 
-/// The size of a list's items, and 0 for anything else.
-fn items_size(value: &Value) -> u32
-    ensures value { 1 + result ≡ data_size (items_of value.now) }
-    ensures small { result ≤ 1048575 }
+/// The list of a list's items and then those of another; only these for anything else than a list.
+fn joined_before(alloc: Global, value: &Value, others: &List) -> Result<List, ListRefusal>
+    ensures ok { IfOk result (λ l. l ≡ items_of value.now ++ others.now) }
+    ensures too_big { result ≡ Err ListRefusal.TooBig → AreFew (items_of value.now ++ others.now) → ⊥ }
 {
     match value {
-        Value::List(list) => list.size() - 1,
-        _ => 0,
+        Value::List(list) => list.append(alloc, others),
+        _ => Ok(others.share()?),
     }
 }
 
-/// Whether the lists' items make a list within the limit on size.
-///
-/// It is asked before any item is shared, so that no more memory is taken than a list may have.
-fn are_small(lists: &[Value]) -> bool
-    ensures { result ≡ nat_le (data_size (joined lists.now)) 1048576 }
+/// A list as an answer.
+fn kept(list: List) -> Answer
+    ensures { result ≡ list_answer list }
 {
-    let mut size: u32 = 1;
-    for value in lists {
-        size += items_size(value);
-        if size > 1_048_576 {
-            return false;
-        }
-    }
-    true
+    // the proof learns by the reads that the list is within the limits
+    let _ = list.size();
+    let _ = list.depth();
+    Ok(Value::List(list))
 }
 
-/// Appends one more owner of each item of each list.
-fn push_lists(all: &mut Vec<Value>, lists: &[Value]) -> Result<(), AllocError>
-    ensures { OnOk result (data_of all.new.items ≡ data_of all.old.items ++ joined lists.now) }
-{
-    for value in lists {
-        if let Value::List(list) = value {
-            list.shared_into(all)?;
-        }
-    }
-    Ok(())
-}
-
+/// The lists joined, the last two first, so that the items of the last are shared and not copied.
 fn join_lists(alloc: Global, lists: &[Value]) -> Result<Answer, AllocError>
     ensures { IfOk result (λ r. r ≡ list_answer (joined lists.now)) }
 {
-    if !are_small(lists) {
-        return Ok(Err(Bad::TooBig));
+    let mut all = List::empty();
+    let mut at = lists.len();
+    while 0 < at {
+        at -= 1;
+        match joined_before(alloc, &lists[at], &all) {
+            Ok(list) => {
+                all = list;
+            }
+            Err(ListRefusal::TooBig) => return Ok(Err(Bad::TooBig)),
+            Err(ListRefusal::Memory(e)) => return Err(e),
+        }
     }
-    let mut all = Vec::new(alloc);
-    push_lists(&mut all, lists)?;
-    list_of(alloc, all)
+    Ok(kept(all))
 }
 
 /// The lists that are the arguments, joined.
@@ -181,9 +161,7 @@ pub(crate) fn append(alloc: Global, args: &[Value]) -> Result<Answer, AllocError
 fn turned(alloc: Global, list: &List) -> Result<Answer, AllocError>
     ensures { IfOk result (λ r. r ≡ Ok (value.List (reverse list.now))) }
 {
-    let mut all = list.to_vec(alloc)?;
-    all.reverse();
-    list_of(alloc, all)
+    Ok(Ok(Value::List(list.reversed(alloc)?)))
 }
 
 /// The items of the one argument from the last to the first.

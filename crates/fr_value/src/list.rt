@@ -361,7 +361,9 @@ fn laid_out(alloc: Global, items: Vec<Value>, more: More) -> Result<List, AllocE
     let mut items = items;
     let mut more = more;
     while items.len() > CHUNK {
-        let kept = items.len().saturating_sub(LEAF).max(CHUNK);
+        // what is left in front is full, but where a tree would have fewer items than one made by `cons`
+        let front = CHUNK.min(items.len() - CHUNK - 1);
+        let kept = items.len().saturating_sub(LEAF).max(front);
         let chunk = items.split_off(kept + 1)?;
         match items.pop() {
             Some(item) => {

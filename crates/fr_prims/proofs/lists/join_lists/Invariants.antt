@@ -1,0 +1,12 @@
+use Rattle.std.proofs.Common.{◌≡◌, ◌≤◌, length, drop}
+use Rattle.fr_prims.specs.Data.{joined}
+use Rattle.fr_prims.proofs.lists.join_lists.Given as goal
+
+abbrev pub invariant-loop-at : goal.invariant-loop-at
+invariant-loop-at l = record {
+  so_far : l.all ≡ joined (drop l.at l.lists);
+  within : l.at ≤ length l.lists;
+}
+
+abbrev pub decreases-loop-at : goal.decreases-loop-at
+decreases-loop-at l = l.at
