@@ -1,12 +1,12 @@
 -- Lists within the limits, and beyond them.
-use Rattle.std.specs.Prelude.{ℕ, ◌+◌, ◌<◌, ◌≡◌, ◌≤◌, List, [], ◌∷◌, ◌++◌, Option, Some, None, Ok, Err, length, drop, get_or, slice_get, zero, suc}
+use Rattle.std.specs.Prelude.{ℕ, ◌+◌, ◌<◌, ◌≡◌, List, [], ◌∷◌, ◌++◌, Option, Some, None, Ok, Err, length, drop, get_or, slice_get, zero, suc}
 use Rattle.std.proofs.Common.{refl, sym, ◌∙◌, ap, subst, arith, add-one, drop-cons}
 use Rattle.std.proofs.lemmas.Option.{slice_get_within}
 use Rattle.fr_value.specs.declared.value.Datum.{Datum}
 use Rattle.fr_value.specs.declared.value.Value.{Value}
 use Rattle.fr_value.specs.declared.value.Value.TheVariants as value
 use Rattle.fr_value.specs.declared.now.Bad.TheVariants.{Empty, TooBig}
-use Rattle.fr_value.specs.Data.{datum_of, value_of, value_of-datum_of, data_size, data_depth, AreFew, behind}
+use Rattle.fr_value.specs.Data.{datum_of, value_of, value_of-datum_of, AreFew, behind}
 use Rattle.fr_value.proofs.Limits.{few_passes, few_fails}
 use Rattle.fr_value.proofs.Measured.{few_parts}
 use Rattle.fr_prims.specs.Data.{list_answer, car, cdr, item_answer, joined, items_of}

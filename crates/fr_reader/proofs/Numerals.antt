@@ -39,7 +39,7 @@ integer_of a h =
     let p : (is_numeral (without_leading_sign a) ≡ true) × (fits (signed_digits_value 10 a) ≡ true) = and_parts _ _ h in
     (numeral_of _ p.0, fits_of _ p.1)
 
-pub integer_from : (a : List ℕ) → IsNumeral 10 (without_leading_sign a) → FitsSigned w64 (signed_digits_value 10 a) → is_integer a ≡ true
+integer_from : (a : List ℕ) → IsNumeral 10 (without_leading_sign a) → FitsSigned w64 (signed_digits_value 10 a) → is_integer a ≡ true
 integer_from a n f = rw (numeral_from _ n, fits_from _ f) refl
 
 not_integer : (a : List ℕ) → ¬ (IsNumeral 10 (without_leading_sign a) × FitsSigned w64 (signed_digits_value 10 a)) → is_integer a ≡ false

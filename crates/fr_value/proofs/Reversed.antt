@@ -1,11 +1,11 @@
 -- Lists from the last item to the first.
-use Rattle.std.specs.Prelude.{ℕ, ◌+◌, ◌≤◌, ◌≡◌, List, [], ◌∷◌, ◌++◌, map, max, reverse, length, take, drop}
+use Rattle.std.specs.Prelude.{ℕ, ◌+◌, ◌≡◌, List, [], ◌∷◌, ◌++◌, map, max, reverse, length, take, drop}
 use mathlib.Core.List.{reverse_aux}
 use Rattle.std.proofs.Common.{refl, sym, ◌∙◌, ap, subst, arith}
 use Rattle.std.proofs.lemmas.List.{reverse-append, take-append-drop, take_all}
 use Rattle.fr_value.specs.declared.value.Datum.{Datum}
 use Rattle.fr_value.specs.declared.value.Value.{Value}
-use Rattle.fr_value.specs.Data.{data_of, datum_of, data_size, data_depth, datum_size, datum_depth, total, greatest, AreFew, IsRun}
+use Rattle.fr_value.specs.Data.{data_of, datum_of, datum_size, datum_depth, total, greatest, AreFew, IsRun}
 use Rattle.fr_value.proofs.Measured.{few_parts}
 use Rattle.fr_value.proofs.Runs.{take_run}
 
@@ -38,6 +38,3 @@ turned_more ds more front at n v vs m f r k =
     let all : take (length vs) vs ≡ vs = take_all (length vs) vs (omega arith) in
     let taken : take n ds ≡ take at ds ++ data_of (v ∷ vs) = ap (λ m. take m ds) k ∙ take_run ds at v vs (length vs) r (omega arith) ∙ ap (λ x. take at ds ++ (datum_of v ∷ data_of x)) all in
     ap (λ x. data_of x ++ more) f ∙ ap (λ x. x ++ more) (data_of-reverse (v ∷ vs)) ∙ ap (λ x. reverse (data_of (v ∷ vs)) ++ x) m ∙ sym (ap reverse taken ∙ reverse-append (take at ds) (data_of (v ∷ vs)))
-
-pub all_turned : (ds xs : List Datum) (n : ℕ) → xs ≡ reverse (take n ds) → length ds ≤ n → xs ≡ reverse ds
-all_turned ds xs n e h = e ∙ ap reverse (take_all n ds h)

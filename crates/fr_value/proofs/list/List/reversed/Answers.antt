@@ -1,5 +1,5 @@
 use Rattle.std.proofs.Common.{◌∙◌, refl}
-use Rattle.fr_value.proofs.Reversed.{few_turned, turned_more, all_turned}
+use Rattle.fr_value.proofs.Reversed.{few_turned, turned_more}
 use Rattle.fr_value.proofs.list.List.reversed.Goals as goal
 
 pub in_tree-requires : goal.in_tree-requires
