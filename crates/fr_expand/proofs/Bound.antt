@@ -11,6 +11,8 @@ use Rattle.fr_syntax.specs.Outlines.{Global}
 use Rattle.fr_scope.specs.Meanings.{Binder, binds, innermost, given_as, sources_behind, functions_behind, global, built_in, meaning_of}
 use Rattle.fr_scope.specs.declared.meaning.Meaning.{Meaning}
 use Rattle.fr_scope.specs.declared.meaning.Meaning.TheVariants as meaning
+use Rattle.fr_value.specs.declared.ids.VarId.{VarId}
+use Rattle.fr_expand.specs.declared.faults.Faults.{Faults}
 use Rattle.fr_expand.specs.Faults.{clean, misplaced, value_fault, callee_fault, is_among}
 use Rattle.fr_expand.specs.Shaped.{names_in}
 
@@ -133,25 +135,22 @@ innermost_among name n [] = refl
 innermost_among name n (None ∷ bs) = ap is_some (none_or (innermost name (n + 1) bs)) ∙ innermost_among name (n + 1) bs
 innermost_among name n (Some m ∷ bs) = some_or (innermost name (n + 1) bs) (bytes_eq m name) n ∙ ap (λ b. bytes_eq m name || b) (innermost_among name (n + 1) bs)
 
-value_or : (o : Option ℕ) (m : Option Meaning) → value_fault (option_or (option_map (λ k. meaning.Variable (record { 0 = k })) o) m) ≡ (if is_some o then clean else value_fault m)
-value_or None m = refl
-value_or (Some k) m = refl
+-- what is told of a meaning, and is the same of each variable
+module _ (tell : Option Meaning → Faults) (variable : Faults) (same : (x : VarId) → tell (Some (meaning.Variable x)) ≡ variable) where
+  told_or : (o : Option ℕ) (m : Option Meaning) → tell (option_or (option_map (λ k. meaning.Variable (record { 0 = k })) o) m) ≡ (if is_some o then variable else tell m)
+  told_or None m = refl
+  told_or (Some k) m = same (record { 0 = k })
 
-callee_or : (o : Option ℕ) (m : Option Meaning) → callee_fault (option_or (option_map (λ k. meaning.Variable (record { 0 = k })) o) m) ≡ (if is_some o then misplaced else callee_fault m)
-callee_or None m = refl
-callee_or (Some k) m = refl
+  told_alike : (globals : List Global) (s t : List Binder) (name : List ℕ) → names_in s ≡ names_in t → tell (meaning_of globals s name) ≡ tell (meaning_of globals t name)
+  unfolding meaning_of
+  told_alike globals s t name e =
+      let other : Option Meaning = option_or (global name 1 0 globals) (built_in name) in
+      let bound : is_some (innermost name 0 s) ≡ is_some (innermost name 0 t) = innermost_among name 0 s ∙ ap (is_among name) e ∙ sym (innermost_among name 0 t) in
+      told_or (innermost name 0 s) other ∙ ap (λ b. if b then variable else tell other) bound ∙ sym (told_or (innermost name 0 t) other)
 
 -- the fault of a name where these variables are in scope is told by their names alone
 pub value_alike : (globals : List Global) (s t : List Binder) (name : List ℕ) → names_in s ≡ names_in t → value_fault (meaning_of globals s name) ≡ value_fault (meaning_of globals t name)
-unfolding meaning_of
-value_alike globals s t name e =
-    let other : Option Meaning = option_or (global name 1 0 globals) (built_in name) in
-    let same : is_some (innermost name 0 s) ≡ is_some (innermost name 0 t) = innermost_among name 0 s ∙ ap (is_among name) e ∙ sym (innermost_among name 0 t) in
-    value_or (innermost name 0 s) other ∙ ap (λ b. if b then clean else value_fault other) same ∙ sym (value_or (innermost name 0 t) other)
+value_alike = told_alike value_fault clean (λ x. refl)
 
 pub callee_alike : (globals : List Global) (s t : List Binder) (name : List ℕ) → names_in s ≡ names_in t → callee_fault (meaning_of globals s name) ≡ callee_fault (meaning_of globals t name)
-unfolding meaning_of
-callee_alike globals s t name e =
-    let other : Option Meaning = option_or (global name 1 0 globals) (built_in name) in
-    let same : is_some (innermost name 0 s) ≡ is_some (innermost name 0 t) = innermost_among name 0 s ∙ ap (is_among name) e ∙ sym (innermost_among name 0 t) in
-    callee_or (innermost name 0 s) other ∙ ap (λ b. if b then misplaced else callee_fault other) same ∙ sym (callee_or (innermost name 0 t) other)
+callee_alike = told_alike callee_fault misplaced (λ x. refl)

@@ -1,5 +1,5 @@
 -- The depth of parts that stand around one another, counted from the last.
-use Rattle.std.proofs.Common.{◌≡◌, ◌+◌, ◌-◌, ◌<◌, ℕ, zero, suc, List, [], ◌∷◌, get_or, length, map, drop, take, max, min, sym, ap, ◌∙◌, subst, arith}
+use Rattle.std.proofs.Common.{◌≡◌, ◌+◌, ◌-◌, ◌<◌, ℕ, zero, suc, List, [], ◌∷◌, get_or, length, map, drop, take, max, min, sym, ap, subst, arith}
 use Rattle.std.proofs.lemmas.List.{length-map}
 use Rattle.fr_syntax.specs.declared.expr.Expr.{Expr}
 use Rattle.fr_expand.specs.Depths.{depth, around}

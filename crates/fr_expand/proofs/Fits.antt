@@ -1,6 +1,6 @@
 -- The expressions of a program and those of its forms.
 use Rattle.std.specs.Prelude.{ℕ, zero, suc, ◌≡◌, ◌+◌, List, [], ◌∷◌, ◌++◌, map, length, slice_get, Option, Some, None}
-use Rattle.std.proofs.Common.{refl, ap, subst}
+use Rattle.std.proofs.Common.{refl, subst}
 use Rattle.fr_core.specs.declared.core_form.Core.{Core}
 use Rattle.fr_core.specs.declared.program.Function.{Function}
 use Rattle.fr_core.specs.declared.program.Program.{Program}
@@ -9,22 +9,9 @@ use Rattle.fr_core.specs.WellFormed.{Root, item_roots}
 use Rattle.fr_syntax.specs.Outlines.{Global}
 use Rattle.fr_syntax.specs.declared.form.Form.{Form}
 use Rattle.fr_syntax.specs.declared.form.Form.TheVariants as form
-use Rattle.fr_expand.specs.Cores.{cores_by, AreFit}
 use Rattle.fr_expand.specs.Faults.{named}
 use Rattle.fr_expand.specs.Translation.{core_of}
-use Rattle.fr_expand.specs.Expansion.{functions_in, items_from, cores_from, program_in, IsFitForm}
-
-also : {A : Type 0} (x : A) (xs ys : List A) → xs ≡ ys → x ∷ xs ≡ x ∷ ys
-also x xs ys h = ap (λ l. x ∷ l) h
-
--- the core expressions of forms are those of the functions and the items that they gave
-pub cores_same : (globals : List Global) (values : List (List ℕ)) (fs : List Form) → cores_by fs (functions_in globals fs) (items_from globals values fs) ≡ cores_from globals values fs
-cores_same globals values [] = refl
-cores_same globals values (form.Function name params body ∷ fs) = also (Some (core_of globals body (named params))) _ _ (cores_same globals values fs)
-cores_same globals values (form.Define name e ∷ fs) = also (Some (core_of globals e (named values))) _ _ (cores_same globals (values ++ name ∷ []) fs)
-cores_same globals values (form.Show name e ∷ fs) = also (Some (core_of globals e (named values))) _ _ (cores_same globals values fs)
-cores_same globals values (form.Input name v ∷ fs) = also None _ _ (cores_same globals values fs)
-cores_same globals values (form.Event name ∷ fs) = also None _ _ (cores_same globals values fs)
+use Rattle.fr_expand.specs.Expansion.{functions_in, items_from, cores_from, program_in, AreFit, IsFitForm}
 
 -- each of these expressions is fit
 abbrev Each : Program → List Root → Type 0

@@ -66,7 +66,7 @@ module _ (P : Expr → Type 0) (closed : (e : Expr) → IsPaired (out-Expr e) �
   AllBound x = (length x.0 ≡ length x.1) × OfEach P x.1
 
   abbrev Clause : Clauses → Type 0
-  Clause x = OfEach P x.0 × OfEach P x.1 × P x.2
+  Clause x = (OfEach P x.0.0 × OfEach P x.0.1) × P x.1
 
   abbrev Handler : List (List ℕ) × Expr → Type 0
   Handler x = P x.1
@@ -116,9 +116,9 @@ module _ (P : Expr → Type 0) (closed : (e : Expr) → IsPaired (out-Expr e) �
 
     clauses_of : (ds : List Datum) → Of Clause (clauses below ds)
     clauses_of [] = tt
-    clauses_of (d ∷ []) = map_of P Clause _ (else_clause below d) (last_of d) (λ e h. (tt, tt, h))
+    clauses_of (d ∷ []) = map_of P Clause _ (else_clause below d) (last_of d) (λ e h. ((tt, tt), h))
     clauses_of (d ∷ u ∷ ds) =
-        then_of Pair Clause _ (test_clause below d) (test_of d) (λ c h. map_of Clause Clause _ (clauses below (u ∷ ds)) (clauses_of (u ∷ ds)) (λ cs k. ((h.0, k.0), (h.1, k.1), k.2)))
+        then_of Pair Clause _ (test_clause below d) (test_of d) (λ c h. map_of Clause Clause _ (clauses below (u ∷ ds)) (clauses_of (u ∷ ds)) (λ cs k. (((h.0, k.0.0), (h.1, k.0.1)), k.1)))
 
     lone_of : (d : Datum) → Of Bound (lone_binding below d)
     lone_of d = then_any Bound _ (option_and_then one_in (items_of (value_of d))) binding_of
@@ -182,7 +182,7 @@ module _ (P : Expr → Type 0) (closed : (e : Expr) → IsPaired (out-Expr e) �
     keyword_holds keyword.If ds = three_of ds
     keyword_holds keyword.Let ds = let_of expr.Let (λ xs es b l h k. made _ _ (outs-Let xs es b) l (h, k)) ds
     keyword_holds keyword.LetStar ds = let_of expr.LetStar (λ xs es b l h k. made _ _ (outs-LetStar xs es b) tt (h, k)) ds
-    keyword_holds keyword.Cond ds = map_of Clause P _ (clauses below ds) (clauses_of ds) (λ cs h. made _ _ (outs-Cond cs.0 cs.1 cs.2) tt h)
+    keyword_holds keyword.Cond ds = map_of Clause P _ (clauses below ds) (clauses_of ds) (λ cs h. made _ _ (outs-Cond cs.0.0 cs.0.1 cs.1) tt (h.0.0, h.0.1, h.1))
     keyword_holds keyword.And ds = map_of (OfEach P) P _ (each below ds) (each_of ds) (λ es h. made _ _ (outs-And es) tt h)
     keyword_holds keyword.Or ds = map_of (OfEach P) P _ (each below ds) (each_of ds) (λ es h. made _ _ (outs-Or es) tt h)
     keyword_holds keyword.ForFold ds = fold_of ds

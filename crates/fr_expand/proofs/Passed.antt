@@ -1,5 +1,5 @@
 -- Forms that the first pass doesn't refuse.
-use Rattle.std.specs.Prelude.{ℕ, ◌≡◌, ◌+◌, ◌≤◌, nat_lt, Bool, true, false, if◌then◌else◌, List, [], ◌∷◌, Option, Some, None}
+use Rattle.std.specs.Prelude.{ℕ, ◌≡◌, ◌+◌, ◌≤◌, nat_lt, Bool, true, false, if◌then◌else◌, List, [], ◌∷◌, map, Option, Some, None}
 use Rattle.std.proofs.Common.{refl}
 use Rattle.std.proofs.lemmas.Bool.{ltb-false}
 use Rattle.fr_value.specs.declared.value.Datum.{Datum}
@@ -11,8 +11,9 @@ use Rattle.fr_expand.specs.declared.refusal.Kind.{Kind}
 use Rattle.fr_expand.specs.declared.refusal.Kind.TheVariants as kind
 use Rattle.fr_expand.specs.declared.refusal.Refusal.{Refusal}
 use Rattle.fr_expand.specs.Faults.{clean}
-use Rattle.fr_expand.specs.Passes.{Earlier, behind, form_expr, form_faults, form_kind, nests, refused_or}
-use Rattle.fr_expand.specs.Shaped.{and_behind, shaped, refused_in}
+use Rattle.fr_expand.specs.Items.{form_core}
+use Rattle.fr_expand.specs.Passes.{Earlier, behind, form_faults, form_kind, nests, refused_or, refusal_from}
+use Rattle.fr_expand.specs.Shaped.{and_behind, shaped}
 use Rattle.fr_expand.specs.Shapes.{shape_of}
 use Rattle.fr_expand.proofs.Fresh.{none_or, no_fault}
 use Rattle.fr_expand.proofs.OfParts.{OfParts, IsPaired}
@@ -21,7 +22,7 @@ use Rattle.fr_expand.proofs.Parsed.{Of, OfForm, form_holds}
 -- a form has no faults and doesn't nest too deep
 pub record Passed (g : List Global) (e : Earlier) (f : Form) : Type 0 where
   pub faultless : form_faults g e f ≡ clean
-  pub shallow : nests g (form_expr e f) ≤ 500
+  pub shallow : nests (form_core g e.values f) ≤ 500
 
 -- so it is with each of these forms
 abbrev pub AllPassed : List Global → Earlier → List Form → Type 0
@@ -35,17 +36,17 @@ not_deep n false e h = ltb-false 500 n e
 passed : (g : List Global) (e : Earlier) (f : Form) → form_kind g e f ≡ None → Passed g e f
 passed g e f h =
     let both = none_or _ _ h in
-    record { faultless = no_fault (form_faults g e f) both.0; shallow = not_deep (nests g (form_expr e f)) (nat_lt 500 (nests g (form_expr e f))) refl both.1 }
+    record { faultless = no_fault (form_faults g e f) both.0; shallow = not_deep (nests (form_core g e.values f)) (nat_lt 500 (nests (form_core g e.values f))) refl both.1 }
 
 not_refused : (n : ℕ) (k : Option Kind) (r : Option Refusal) → None ≡ refused_or n k r → (k ≡ None) × (None ≡ r)
 not_refused n None r h = (refl, h)
 not_refused n (Some k) r h = cc
 
 -- where none is refused, each passes
-pub all_passed : (g : List Global) (n : ℕ) (e : Earlier) (fs : List Form) → None ≡ refused_in g n e fs → AllPassed g e fs
+pub all_passed : (g : List Global) (n : ℕ) (e : Earlier) (fs : List Form) → None ≡ refusal_from g n e (map Some fs) → AllPassed g e fs
 all_passed g n e [] h = tt
 all_passed g n e (f ∷ fs) h =
-    let both = not_refused n (form_kind g e f) (refused_in g (n + 1) (behind e f) fs) h in
+    let both = not_refused n (form_kind g e f) (refusal_from g (n + 1) (behind e f) (map Some fs)) h in
     (passed g e f both.0, all_passed g (n + 1) (behind e f) fs both.1)
 
 -- it holds of the expression of each form

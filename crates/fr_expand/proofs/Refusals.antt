@@ -1,5 +1,5 @@
 -- The first pass over forms that have a shape, and over all forms.
-use Rattle.std.specs.Prelude.{ℕ, suc, ◌≡◌, ◌+◌, ◌<◌, ◌≤◌, List, [], ◌∷◌, ◌++◌, length, Option, Some, None}
+use Rattle.std.specs.Prelude.{ℕ, suc, ◌≡◌, ◌+◌, ◌<◌, ◌≤◌, List, [], ◌∷◌, ◌++◌, map, length, Option, Some, None}
 use Rattle.std.proofs.Common.{refl, sym, ◌∙◌, ap, arith}
 use Rattle.std.specs.Option.{option_or, option_to_list}
 use Rattle.fr_value.specs.declared.value.Datum.{Datum}
@@ -9,8 +9,8 @@ use Rattle.fr_syntax.specs.declared.form.Form.{Form}
 use Rattle.fr_expand.specs.declared.refusal.Kind.{Kind}
 use Rattle.fr_expand.specs.declared.refusal.Kind.TheVariants as kind
 use Rattle.fr_expand.specs.declared.refusal.Refusal.{Refusal}
-use Rattle.fr_expand.specs.Passes.{Earlier, behind, form_kind, refused_or, refusal_at, refusal_from}
-use Rattle.fr_expand.specs.Shaped.{and_behind, shaped, refused_in}
+use Rattle.fr_expand.specs.Passes.{Earlier, behind, form_kind, refused_or, refusal_from}
+use Rattle.fr_expand.specs.Shaped.{and_behind, shaped}
 use Rattle.fr_expand.specs.Expansion.{forms_of}
 
 -- the refusal of the first form that has no shape, where these have one before it
@@ -24,10 +24,10 @@ refused_before n None r s t h = h
 refused_before n (Some k) r s t h = refl
 
 -- a refusal is that of a form with a shape, or else that of the first form without one
-refusal_split : (globals : List Global) (n : ℕ) (e : Earlier) (ds : List Datum) → refusal_from globals n e ds ≡ option_or (refused_in globals n e (shaped ds)) (unshaped n ds (shaped ds))
+refusal_split : (globals : List Global) (n : ℕ) (e : Earlier) (ds : List Datum) → refusal_from globals n e (map form_of ds) ≡ option_or (refusal_from globals n e (map Some (shaped ds))) (unshaped n ds (shaped ds))
 refusal_split globals n e [] = refl
 refusal_split globals n e (d ∷ ds) =
-    elim (form_of d) as (λ x. refusal_at globals n e x (λ b. refusal_from globals (n + 1) b ds) ≡ option_or (refused_in globals n e (and_behind x (shaped ds))) (unshaped n (d ∷ ds) (and_behind x (shaped ds)))) [
+    elim (form_of d) as (λ x. refusal_from globals n e (x ∷ map form_of ds) ≡ option_or (refusal_from globals n e (map Some (and_behind x (shaped ds)))) (unshaped n (d ∷ ds) (and_behind x (shaped ds)))) [
       | None ↦ refl
       | Some f ↦ refused_before n (form_kind globals e f) _ _ _ (refusal_split globals (n + 1) (behind e f) ds)
     ]
@@ -45,18 +45,18 @@ unshaped_none n (d ∷ ds) [] h = absurd (omega (arith, h))
 unshaped_none n (d ∷ ds) (f ∷ fs) h = unshaped_none (n + 1) ds fs (omega (arith, h))
 
 -- a form with a shape is refused
-pub refused_shaped : (globals : List Global) (e : Earlier) (ds : List Datum) (r : Refusal) → Some r ≡ refused_in globals 1 e (shaped ds) → refusal_from globals 1 e ds ≡ Some r
+pub refused_shaped : (globals : List Global) (e : Earlier) (ds : List Datum) (r : Refusal) → Some r ≡ refusal_from globals 1 e (map Some (shaped ds)) → refusal_from globals 1 e (map form_of ds) ≡ Some r
 refused_shaped globals e ds r h = refusal_split globals 1 e ds ∙ ap (λ x. option_or x (unshaped 1 ds (shaped ds))) (sym h)
 
 -- no form with a shape is refused, and one has none
-pub refused_form : (globals : List Global) (e : Earlier) (ds : List Datum) → None ≡ refused_in globals 1 e (shaped ds) → length (shaped ds) < length ds
-    → refusal_from globals 1 e ds ≡ Some (record { form = length (shaped ds) + 1; kind = kind.Form })
+pub refused_form : (globals : List Global) (e : Earlier) (ds : List Datum) → None ≡ refusal_from globals 1 e (map Some (shaped ds)) → length (shaped ds) < length ds
+    → refusal_from globals 1 e (map form_of ds) ≡ Some (record { form = length (shaped ds) + 1; kind = kind.Form })
 refused_form globals e ds h few =
     let same : 1 + length (shaped ds) ≡ length (shaped ds) + 1 = omega arith in
     refusal_split globals 1 e ds ∙ ap (λ x. option_or x (unshaped 1 ds (shaped ds))) (sym h) ∙ unshaped_at 1 ds (shaped ds) few ∙ ap (λ m. Some (record { form = m; kind = kind.Form })) same
 
 -- no form is refused
-pub refused_none : (globals : List Global) (e : Earlier) (ds : List Datum) → None ≡ refused_in globals 1 e (shaped ds) → length ds ≤ length (shaped ds) → refusal_from globals 1 e ds ≡ None
+pub refused_none : (globals : List Global) (e : Earlier) (ds : List Datum) → None ≡ refusal_from globals 1 e (map Some (shaped ds)) → length ds ≤ length (shaped ds) → refusal_from globals 1 e (map form_of ds) ≡ None
 refused_none globals e ds h all = refusal_split globals 1 e ds ∙ ap (λ x. option_or x (unshaped 1 ds (shaped ds))) (sym h) ∙ unshaped_none 1 ds (shaped ds) all
 
 forms_behind : (x : Option Form) (n : ℕ) (fs gs : List Form) → suc n ≤ length (and_behind x gs) → (n ≤ length gs → fs ≡ gs) → option_to_list x ++ fs ≡ and_behind x gs

@@ -1,5 +1,5 @@
 -- The program that forms are is well formed, and has few expressions.
-use Rattle.std.specs.Prelude.{ℕ, ◌≡◌, ◌+◌, ◌*◌, ◌<◌, ◌≤◌, List, [], ◌∷◌, ◌++◌, map, length, None}
+use Rattle.std.specs.Prelude.{ℕ, ◌≡◌, ◌+◌, ◌*◌, ◌<◌, ◌≤◌, List, [], ◌∷◌, ◌++◌, map, length, Some, None}
 use Rattle.std.proofs.Common.{ap, ◌∙◌, arith, subst}
 use Rattle.fr_value.specs.Data.{total}
 use Rattle.fr_value.specs.declared.value.Datum.{Datum}
@@ -11,8 +11,8 @@ use Rattle.fr_syntax.specs.Outlines.{Global}
 use Rattle.fr_syntax.specs.Weights.{form_weight}
 use Rattle.fr_scope.specs.Meanings.{Binder, globals_in, meaning_of}
 use Rattle.fr_expand.specs.Expansion.{inputs_from, events_from, functions_in, items_from, program_in}
-use Rattle.fr_expand.specs.Passes.{nothing_yet}
-use Rattle.fr_expand.specs.Shaped.{shaped, refused_in}
+use Rattle.fr_expand.specs.Passes.{nothing_yet, refusal_from}
+use Rattle.fr_expand.specs.Shaped.{shaped}
 use Rattle.fr_expand.proofs.Bound.{IsThere, sources_among, functions_among, meaning_there}
 use Rattle.fr_expand.proofs.DistinctNames.{names_distinct}
 use Rattle.fr_expand.proofs.Numbered.{numbered}
@@ -53,7 +53,7 @@ in_program g fs e s name =
     subst (λ f. IsThere f (last_source (program_in g fs)) (length s) (meaning_of g s name)) functions
     (subst (λ x. IsThere (functions_among g) x (length s) (meaning_of g s name)) sources (meaning_there g s name))
 
-module _ (ds : List Datum) (none : None ≡ refused_in (globals_in ds) 1 nothing_yet (shaped ds)) (all : length ds ≤ length (shaped ds)) (small : total (map form_weight (shaped ds)) ≤ 8388608) where
+module _ (ds : List Datum) (none : None ≡ refusal_from (globals_in ds) 1 nothing_yet (map Some (shaped ds))) (all : length ds ≤ length (shaped ds)) (small : total (map form_weight (shaped ds)) ≤ 8388608) where
   abbrev the_program : Program
   the_program = program_in (globals_in ds) (shaped ds)
 

@@ -1,5 +1,5 @@
 -- The core expression of an expression without faults is in scope, formed, and as small as the expression's weight allows.
-use Rattle.std.specs.Prelude.{ℕ, ◌≡◌, ◌+◌, ◌*◌, ◌<◌, ◌≤◌, ◌==◌, nat_lt, nat_le, Bool, true, false, List, [], ◌∷◌, ◌++◌, map, length, Option, Some, None}
+use Rattle.std.specs.Prelude.{ℕ, ◌≡◌, ◌+◌, ◌*◌, ◌≤◌, ◌==◌, Bool, true, false, List, [], ◌∷◌, ◌++◌, map, length, Option, Some, None}
 use Rattle.std.proofs.Common.{refl, sym, ap, ◌∙◌, arith, subst, length-append}
 use Rattle.std.proofs.lemmas.List.{length-map}
 use Rattle.std.proofs.lemmas.Bool.{lt-ltb, le-leb}
@@ -7,7 +7,6 @@ use Rattle.fr_value.specs.Data.{total}
 use Rattle.fr_core.specs.declared.core_form.Core.{Core}
 use Rattle.fr_core.specs.declared.core_form.Core.TheVariants as core
 use Rattle.fr_core.specs.declared.core_form.Core.TheVariants.{outs-Var, outs-Source, outs-Let, outs-Apply, outs-Operator, outs-Handler, outs-Loop, outs-Feedback}
-use Rattle.fr_core.specs.declared.core_form.Operator.{Operator}
 use Rattle.fr_core.specs.Shapes.{operator_takes, handler_parts, handler_binds, loop_binds}
 use Rattle.fr_syntax.specs.declared.expr.Expr.{Expr, out-Expr}
 use Rattle.fr_syntax.specs.declared.expr.Expr.TheOpen.{Expr-F}
@@ -19,11 +18,11 @@ use Rattle.fr_scope.specs.declared.meaning.Meaning.TheVariants as meaning
 use Rattle.fr_expand.specs.declared.faults.Faults.{Faults}
 use Rattle.fr_expand.specs.declared.view.Binding.{Binding}
 use Rattle.fr_expand.specs.declared.view.Binding.TheVariants as binding
-use Rattle.fr_expand.specs.Faults.{with, named, faults, faults_by, value_fault, callee_fault, unless_keyword, is_keyword, all_faults, binding_faults, chain_faults, chained_faults}
+use Rattle.fr_expand.specs.Faults.{with, named, faults, faults_by, callee_fault, unless_keyword, all_faults, binding_faults, chain_faults, chained_faults}
 use Rattle.fr_expand.specs.Shaped.{names_in}
 use Rattle.fr_expand.specs.Shapes.{Shape, literal, reference, call, choice, chain, clauses, all_of, any_of, operation, binder, feedback, shape, shape_of, mapped}
-use Rattle.fr_expand.specs.Translation.{truth, core_of, core_by, value_core, call_core, binding_core, each_core, chained_core, cond_core, and_core, or_core}
-use Rattle.fr_expand.proofs.Bound.{IsThere, value_alike}
+use Rattle.fr_expand.specs.Translation.{core_of, core_by, value_core, call_core, binding_core, each_core, chained_core, cond_core, and_core, or_core}
+use Rattle.fr_expand.proofs.Bound.{IsThere}
 use Rattle.fr_expand.proofs.Fresh.{or_false}
 use Rattle.fr_expand.proofs.OfParts.{OfEach, OfParts, IsPaired}
 use Rattle.fr_expand.proofs.Views.{core_opens, faults_opens, weight_opens, weight_by}

@@ -1,17 +1,16 @@
 -- What is defined of an expression by its shape, from what is of its parts: one equation for any expression.
-use Rattle.std.proofs.Common.{◌≡◌, ◌+◌, ℕ, List, [], ◌∷◌, map, length, refl, ap, ◌∙◌, arith}
+use Rattle.std.proofs.Common.{◌≡◌, ◌+◌, ℕ, List, length, ap, ◌∙◌, arith}
 use Rattle.fr_value.specs.Data.{total}
 use Rattle.fr_syntax.specs.Outlines.{Global}
 use Rattle.fr_syntax.specs.Weights.{weight, weight_step}
-use Rattle.fr_syntax.specs.declared.expr.Expr.{Expr, out-Expr, map-Expr, fold-Expr, fold_out-Expr}
+use Rattle.fr_syntax.specs.declared.expr.Expr.{Expr, out-Expr, map-Expr, fold_out-Expr}
 use Rattle.fr_syntax.specs.declared.expr.Expr.TheOpen.{Expr-F}
 use Rattle.fr_expand.proofs.OfParts.{shape-map}
 use Rattle.fr_scope.specs.Meanings.{Binder}
-use Rattle.fr_expand.specs.declared.faults.Faults.{Faults}
 use Rattle.fr_expand.specs.Depths.{depth, depth_by, depth_step}
 use Rattle.fr_expand.specs.Faults.{faults, faults_by, faults_step}
 use Rattle.fr_expand.specs.Faults.{Part as FaultPart}
-use Rattle.fr_expand.specs.Shapes.{Shape, literal, reference, call, choice, chain, clauses, all_of, any_of, operation, binder, feedback, shape, shape_of, mapped}
+use Rattle.fr_expand.specs.Shapes.{Shape, call, choice, chain, clauses, all_of, any_of, operation, binder, feedback, shape, shape_of, mapped}
 use Rattle.fr_expand.specs.Translation.{Part, core_of, core_by, core_step}
 
 pub core_opens : (globals : List Global) (e : Expr) (scope : List Binder) → core_of globals e scope ≡ core_by globals (mapped (core_of globals) (shape_of e)) scope

@@ -1,5 +1,5 @@
 -- Core expressions whose numbers name something in scope, whose forms have their parts, and which have few parts and variables.
-use Rattle.std.specs.Prelude.{ℕ, ◌≡◌, ◌+◌, ◌*◌, ◌≤◌, ◌==◌, ◌&&◌, Bool, true, List, [], ◌∷◌, ◌++◌, map, length, max}
+use Rattle.std.specs.Prelude.{ℕ, ◌≡◌, ◌+◌, ◌*◌, ◌≤◌, ◌&&◌, Bool, true, List, [], ◌∷◌, ◌++◌, map, length, max}
 use Rattle.std.proofs.Common.{refl, ap, ◌∙◌, arith}
 use Rattle.fr_value.specs.Data.{greatest, total}
 use Rattle.fr_value.specs.declared.value.Value.{Value}

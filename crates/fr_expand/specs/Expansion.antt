@@ -7,7 +7,6 @@ use Rattle.fr_core.specs.declared.program.Event.{Event}
 use Rattle.fr_core.specs.declared.program.Function.{Function}
 use Rattle.fr_core.specs.declared.program.Input.{Input}
 use Rattle.fr_core.specs.declared.program.Item.{Item}
-use Rattle.fr_core.specs.declared.program.Item.TheVariants as item
 use Rattle.fr_core.specs.declared.program.Program.{Program}
 use Rattle.fr_core.specs.Classes.{IsFit, IsFitExpr}
 use Rattle.fr_syntax.specs.Outlines.{Global}
@@ -19,6 +18,7 @@ use Rattle.fr_expand.specs.declared.refusal.Kind.TheVariants as kind
 use Rattle.fr_expand.specs.declared.refusal.Refusal.{Refusal}
 use Rattle.fr_expand.specs.Faults.{named}
 use Rattle.fr_expand.specs.Translation.{core_of}
+use Rattle.fr_expand.specs.Items.{values_behind, form_core, item_of}
 use Rattle.fr_expand.specs.Passes.{first_refusal}
 
 -- all forms that have a shape
@@ -56,11 +56,7 @@ functions_in globals (form.Show name e ∷ fs) = functions_in globals fs
 -- the items of the body, where these are the names of the values before
 abbrev pub items_from : List Global → List (List ℕ) → List Form → List Item
 items_from globals values [] = []
-items_from globals values (form.Define name e ∷ fs) = item.Define (core_of globals e (named values)) ∷ items_from globals (values ++ name ∷ []) fs
-items_from globals values (form.Show name e ∷ fs) = item.Show name (core_of globals e (named values)) ∷ items_from globals values fs
-items_from globals values (form.Input name v ∷ fs) = items_from globals values fs
-items_from globals values (form.Event name ∷ fs) = items_from globals values fs
-items_from globals values (form.Function name params body ∷ fs) = items_from globals values fs
+items_from globals values (f ∷ fs) = option_to_list (item_of globals values f) ++ items_from globals (values_behind values f) fs
 
 -- the program of forms that have a shape
 abbrev pub program_in : List Global → List Form → Program
@@ -70,14 +66,10 @@ program_in globals fs = record { inputs = inputs_from 1 fs; events = events_from
 unfoldable pub program_of : List Datum → Program
 program_of ds = program_in (globals_in ds) (forms_of ds)
 
--- the core expression of each form, where it has one, and these are the names of the values before
+-- the core expression of each form, if it has one, where these are the names of the values before
 abbrev pub cores_from : List Global → List (List ℕ) → List Form → List (Option Core)
 cores_from globals values [] = []
-cores_from globals values (form.Function name params body ∷ fs) = Some (core_of globals body (named params)) ∷ cores_from globals values fs
-cores_from globals values (form.Define name e ∷ fs) = Some (core_of globals e (named values)) ∷ cores_from globals (values ++ name ∷ []) fs
-cores_from globals values (form.Show name e ∷ fs) = Some (core_of globals e (named values)) ∷ cores_from globals values fs
-cores_from globals values (form.Input name v ∷ fs) = None ∷ cores_from globals values fs
-cores_from globals values (form.Event name ∷ fs) = None ∷ cores_from globals values fs
+cores_from globals values (f ∷ fs) = form_core globals values f ∷ cores_from globals (values_behind values f) fs
 
 abbrev pub cores_of : List Datum → List (Option Core)
 cores_of ds = cores_from (globals_in ds) [] (forms_of ds)
@@ -95,6 +87,10 @@ pub record IsFirstUnfit (p : Program) (cores : List (Option Core)) (form : ℕ) 
   pub stands : slice_get cores place ≡ Some (Some core)
   pub unfit : IsFitExpr p core → ⊥
   pub before : (i : ℕ) (c : Option Core) → i < place → slice_get cores i ≡ Some c → IsFitForm p c
+
+-- the handlers and loops of all forms have pure bodies
+abbrev pub AreFit : Program → List (Option Core) → Type 0
+AreFit p cores = (i : ℕ) (c : Option Core) → slice_get cores i ≡ Some c → IsFitForm p c
 
 -- what forms are that the first pass doesn't refuse: the program where it is fit, and else a refusal of the second pass
 abbrev pub IsSecondPass : List Datum → Result Program Refusal → Type 0

@@ -2,9 +2,9 @@ pub mod Shapes
 pub mod Faults
 pub mod Translation
 pub mod Depths
+pub mod Items
 pub mod Passes
 pub mod Shaped
-pub mod Items
 pub mod Expansion
 pub mod Cores
 pub mod Stops

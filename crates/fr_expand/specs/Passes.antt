@@ -1,13 +1,13 @@
 -- The first pass over the forms of a program: each form is looked at for shape, names and nesting.
-use Rattle.std.specs.Prelude.{ℕ, ◌+◌, ◌||◌, nat_lt, Bool, false, if◌then◌else◌, List, [], ◌∷◌, ◌++◌, Option, Some, None, is_some, codes}
+use Rattle.std.specs.Prelude.{ℕ, ◌+◌, ◌||◌, nat_lt, Bool, false, if◌then◌else◌, List, [], ◌∷◌, ◌++◌, map, Option, Some, None, is_some, codes}
 use Rattle.std.specs.Option.{option_or}
 use Rattle.std.specs.Str.{bytes_eq}
 use Rattle.fr_value.specs.declared.value.Datum.{Datum}
 use Rattle.fr_prims.specs.Names.{prim_named}
+use Rattle.fr_core.specs.declared.core_form.Core.{Core}
 use Rattle.fr_core.specs.WellFormed.{nesting}
 use Rattle.fr_syntax.specs.Outlines.{Global}
 use Rattle.fr_syntax.specs.Shapes.{form_of}
-use Rattle.fr_syntax.specs.declared.expr.Expr.{Expr}
 use Rattle.fr_syntax.specs.declared.form.Form.{Form}
 use Rattle.fr_syntax.specs.declared.form.Form.TheVariants as form
 use Rattle.fr_scope.specs.Meanings.{globals_in}
@@ -16,7 +16,7 @@ use Rattle.fr_expand.specs.declared.refusal.Kind.TheVariants as kind
 use Rattle.fr_expand.specs.declared.refusal.Refusal.{Refusal}
 use Rattle.fr_expand.specs.declared.faults.Faults.{Faults}
 use Rattle.fr_expand.specs.Faults.{with, is_keyword, is_among, binding_faults, named, faults}
-use Rattle.fr_expand.specs.Translation.{core_of}
+use Rattle.fr_expand.specs.Items.{name_of, values_behind, form_core}
 
 -- the names that earlier forms gave: all that they defined, the values among them in order, and those of shows
 pub record Earlier : Type 0 where
@@ -47,18 +47,10 @@ form_faults globals earlier (form.Function name params body) = with (definition_
 form_faults globals earlier (form.Define name e) = with (definition_faults earlier name) (faults globals e (named earlier.values))
 form_faults globals earlier (form.Show name e) = with (show_faults earlier name) (faults globals e (named earlier.values))
 
--- the expression of a form and the names of the variables in scope there
-abbrev pub form_expr : Earlier → Form → Option (Expr × List (List ℕ))
-form_expr earlier (form.Input name v) = None
-form_expr earlier (form.Event name) = None
-form_expr earlier (form.Function name params body) = Some (body, params)
-form_expr earlier (form.Define name e) = Some (e, earlier.values)
-form_expr earlier (form.Show name e) = Some (e, earlier.values)
-
--- how deep the core expression of a form nests, 0 where it has none
-abbrev pub nests : List Global → Option (Expr × List (List ℕ)) → ℕ
-nests globals None = 0
-nests globals (Some x) = nesting (core_of globals x.0 (named x.1))
+-- how deep a core expression nests, 0 where there is none
+abbrev pub nests : Option Core → ℕ
+nests None = 0
+nests (Some c) = nesting c
 
 -- the first kind of these faults
 abbrev pub fault_kind : Faults → Option Kind
@@ -66,31 +58,24 @@ fault_kind f = if f.name then Some kind.Name else if f.unbound then Some kind.Un
 
 -- the kind for which a well-shaped form is refused
 abbrev pub form_kind : List Global → Earlier → Form → Option Kind
-form_kind globals earlier f = option_or (fault_kind (form_faults globals earlier f)) (if nat_lt 500 (nests globals (form_expr earlier f)) then Some kind.Nesting else None)
+form_kind globals earlier f = option_or (fault_kind (form_faults globals earlier f)) (if nat_lt 500 (nests (form_core globals earlier.values f)) then Some kind.Nesting else None)
 
 -- the names that stand for the forms behind this one
 abbrev pub behind : Earlier → Form → Earlier
-behind e (form.Input name v) = record { defined = e.defined ++ name ∷ []; values = e.values; shown = e.shown }
-behind e (form.Event name) = record { defined = e.defined ++ name ∷ []; values = e.values; shown = e.shown }
-behind e (form.Function name params body) = record { defined = e.defined ++ name ∷ []; values = e.values; shown = e.shown }
-behind e (form.Define name expr) = record { defined = e.defined ++ name ∷ []; values = e.values ++ name ∷ []; shown = e.shown }
 behind e (form.Show name expr) = record { defined = e.defined; values = e.values; shown = e.shown ++ name ∷ [] }
+behind e f = record { defined = e.defined ++ name_of f ∷ []; values = values_behind e.values f; shown = e.shown }
 
 -- a refusal of form number n, or what comes behind it
 abbrev pub refused_or : ℕ → Option Kind → Option Refusal → Option Refusal
 refused_or n None rest = rest
 refused_or n (Some k) rest = Some (record { form = n; kind = k })
 
--- the refusal of form number n, which has this shape, or what comes behind it
-abbrev pub refusal_at : List Global → ℕ → Earlier → Option Form → (Earlier → Option Refusal) → Option Refusal
-refusal_at globals n earlier None rest = Some (record { form = n; kind = kind.Form })
-refusal_at globals n earlier (Some f) rest = refused_or n (form_kind globals earlier f) (rest (behind earlier f))
-
--- the first refusal among these forms, of which the first has number n
-abbrev pub refusal_from : List Global → ℕ → Earlier → List Datum → Option Refusal
+-- the first refusal among these forms, of which the first has number n; one that has no shape is refused for that
+abbrev pub refusal_from : List Global → ℕ → Earlier → List (Option Form) → Option Refusal
 refusal_from globals n earlier [] = None
-refusal_from globals n earlier (d ∷ ds) = refusal_at globals n earlier (form_of d) (λ e. refusal_from globals (n + 1) e ds)
+refusal_from globals n earlier (None ∷ fs) = Some (record { form = n; kind = kind.Form })
+refusal_from globals n earlier (Some f ∷ fs) = refused_or n (form_kind globals earlier f) (refusal_from globals (n + 1) (behind earlier f) fs)
 
 -- the first form that the first pass refuses, with its first kind; forms count from 1
 abbrev pub first_refusal : List Datum → Option Refusal
-first_refusal ds = refusal_from (globals_in ds) 1 nothing_yet ds
+first_refusal ds = refusal_from (globals_in ds) 1 nothing_yet (map form_of ds)

@@ -1,15 +1,14 @@
--- The forms of a program as far as each has a shape, and what is wrong with their names and nesting.
-use Rattle.std.specs.Prelude.{ℕ, ◌≡◌, ◌+◌, Bool, List, [], ◌∷◌, Option, Some, None}
+-- The forms of a program as far as each has a shape, and what the code keeps of earlier ones.
+use Rattle.std.specs.Prelude.{ℕ, ◌≡◌, Bool, List, [], ◌∷◌, Option, Some, None}
 use Rattle.fr_value.specs.declared.value.Datum.{Datum}
-use Rattle.fr_syntax.specs.Outlines.{Global}
 use Rattle.fr_syntax.specs.Shapes.{form_of}
 use Rattle.fr_syntax.specs.declared.form.Form.{Form}
 use Rattle.fr_syntax.specs.declared.form.Form.TheVariants as form
 use Rattle.fr_scope.specs.Meanings.{Binder}
-use Rattle.fr_expand.specs.declared.refusal.Refusal.{Refusal}
 use Rattle.fr_expand.specs.declared.earlier.EarlierNames.{EarlierNames}
 use Rattle.fr_expand.specs.Faults.{is_among, named}
-use Rattle.fr_expand.specs.Passes.{Earlier, form_kind, behind, refused_or}
+use Rattle.fr_expand.specs.Items.{name_of}
+use Rattle.fr_expand.specs.Passes.{Earlier}
 
 -- a form and those behind it, or none where it has no shape
 abbrev pub and_behind : Option Form → List Form → List Form
@@ -20,11 +19,6 @@ and_behind (Some f) fs = f ∷ fs
 abbrev pub shaped : List Datum → List Form
 shaped [] = []
 shaped (d ∷ ds) = and_behind (form_of d) (shaped ds)
-
--- the first refusal among forms that have a shape, of which the first has number n
-abbrev pub refused_in : List Global → ℕ → Earlier → List Form → Option Refusal
-refused_in globals n earlier [] = None
-refused_in globals n earlier (f ∷ fs) = refused_or n (form_kind globals earlier f) (refused_in globals (n + 1) (behind earlier f) fs)
 
 -- the names of the variables that have one
 abbrev pub names_in : List Binder → List (List ℕ)
@@ -42,8 +36,5 @@ AreNamed bs = bs ≡ named (names_in bs)
 
 -- whether an earlier form of its kind gave the name that a form gives
 abbrev pub is_taken : Earlier → Form → Bool
-is_taken earlier (form.Input name v) = is_among name earlier.defined
-is_taken earlier (form.Event name) = is_among name earlier.defined
-is_taken earlier (form.Function name params body) = is_among name earlier.defined
-is_taken earlier (form.Define name e) = is_among name earlier.defined
 is_taken earlier (form.Show name e) = is_among name earlier.shown
+is_taken earlier f = is_among (name_of f) earlier.defined

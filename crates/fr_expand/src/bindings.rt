@@ -97,7 +97,7 @@ pub(crate) fn bind(scope: &mut Scope, names: Names<'_>) -> Result<(), AllocError
 }
 
 /// The same for a list of names.
-pub(crate) fn bind_all(scope: &mut Scope, names: &[Symbol]) -> Result<(), AllocError>
+fn bind_all(scope: &mut Scope, names: &[Symbol]) -> Result<(), AllocError>
     requires { length scope.old + length names.now ≤ 4294967295 }
     ensures { OnOk result (scope.new ≡ scope.old ++ named names.now) }
 {
@@ -105,4 +105,14 @@ pub(crate) fn bind_all(scope: &mut Scope, names: &[Symbol]) -> Result<(), AllocE
         scope.push(name)?;
     }
     Ok(())
+}
+
+/// The variables of a function's parameters.
+pub(crate) fn scope_of(alloc: Global, params: &[Symbol]) -> Result<Scope, AllocError>
+    requires { length params.now ≤ 4294967295 }
+    ensures { IfOk result (λ s. s ≡ named params.now) }
+{
+    let mut scope = Scope::new(alloc);
+    bind_all(&mut scope, params)?;
+    Ok(scope)
 }

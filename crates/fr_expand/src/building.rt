@@ -7,7 +7,7 @@ ghost use Rattle.fr_expand.specs.Items.{item_of, values_behind};
 ghost use Rattle.fr_expand.specs.Shaped.{names_in, AreNamed};
 ghost use Rattle.fr_expand.specs.Translation.{core_of};
 
-use crate::bindings::bind_all;
+use crate::bindings::scope_of;
 use crate::translation::core_in;
 use fr_core::{Core, Event, Function, Input, Item, Program};
 use fr_scope::{Globals, Scope};
@@ -119,8 +119,7 @@ fn body_of(
     requires { length params.now + weight body.now ≤ 4294967295 }
     ensures { IfOk result (λ c. c ≡ core_of globals.now body.now (named params.now)) }
 {
-    let mut scope = Scope::new(alloc);
-    bind_all(&mut scope, params)?;
+    let mut scope = scope_of(alloc, params)?;
     core_in(alloc, globals, &mut scope, body)
 }
 

@@ -4,7 +4,7 @@ ghost use Rattle.fr_expand.specs.Faults.{faults, named};
 ghost use Rattle.fr_expand.specs.Passes.{behind, definition_faults, form_faults, is_reserved, nothing_yet, show_faults};
 ghost use Rattle.fr_expand.specs.Shaped.{earlier_of, is_taken, AreNamed};
 
-use crate::bindings::{bind_all, binding_faults};
+use crate::bindings::{binding_faults, scope_of};
 use crate::faults::{Faults, faults_in};
 use crate::name_set::NameSet;
 use crate::view::Names;
@@ -131,7 +131,6 @@ fn body_faults(
     requires { length params.now + weight body.now ≤ 4294967295 }
     ensures { IfOk result (λ f. f ≡ faults globals.now body.now (named params.now)) }
 {
-    let mut scope = Scope::new(alloc);
-    bind_all(&mut scope, params)?;
+    let mut scope = scope_of(alloc, params)?;
     faults_in(alloc, globals, &mut scope, body)
 }

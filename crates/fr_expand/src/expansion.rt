@@ -1,8 +1,9 @@
 ghost use Rattle.std.specs.Prelude.{◌≡◌, ◌+◌, ◌<◌, ◌≤◌, IfOk, IfErr, map, Ok};
 ghost use Rattle.fr_value.specs.Data.{data_of, datum_size, total};
 ghost use Rattle.fr_core.specs.WellFormed.{count, roots, IsWellFormed};
+ghost use Rattle.fr_syntax.specs.Weights.{form_weight};
 ghost use Rattle.fr_expand.specs.Expansion.{IsExpansion};
-ghost use Rattle.fr_expand.specs.Stops.{Tells};
+ghost use Rattle.fr_expand.specs.Stops.{Decides, Tells};
 ghost use Rattle.fr_expand.specs.declared.expansion.ExpandStop.TheVariants.{Refused};
 
 use crate::building::program_in;
@@ -13,6 +14,7 @@ use crate::shaping::shaped_forms;
 use fr_core::Program;
 use fr_purity::classify;
 use fr_scope::Globals;
+use fr_syntax::Form;
 use fr_value::Value;
 use std::alloc::{AllocError, Global};
 
@@ -57,9 +59,17 @@ pub fn expand(alloc: Global, forms: &[Value]) -> Result<Program, ExpandStop>
     if shaped.len() < forms.len() {
         return Err(refused(shaped.len(), Kind::Form));
     }
-    let program = program_in(alloc, &globals, shaped)?;
+    fit_program(alloc, &globals, shaped)
+}
+
+/// The program that forms are which the first pass doesn't refuse, where the bodies of its handlers and loops are pure.
+fn fit_program(alloc: Global, globals: &Globals, forms: &[Form]) -> Result<Program, ExpandStop>
+    requires { total (map form_weight forms.now) ≤ 8388608 }
+    ensures { Decides globals.now forms.now result }
+{
+    let program = program_in(alloc, globals, forms)?;
     let classes = classify(alloc, &program)?;
-    match first_unfit(&program, &classes, shaped) {
+    match first_unfit(&program, &classes, forms) {
         Some(at) => Err(refused(at, Kind::Handler)),
         None => Ok(program),
     }

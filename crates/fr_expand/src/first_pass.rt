@@ -1,9 +1,10 @@
-ghost use Rattle.std.specs.Prelude.{◌≡◌, ◌+◌, ◌≤◌, ◌<◌, List, map, nat_lt, length, IfOk, OnOk};
+ghost use Rattle.std.specs.Prelude.{◌≡◌, ◌+◌, ◌≤◌, ◌<◌, ℕ, List, Some, map, nat_lt, length, IfOk, OnOk};
 ghost use Rattle.fr_value.specs.Data.{total};
 ghost use Rattle.fr_syntax.specs.Outlines.{Global as GlobalName};
 ghost use Rattle.fr_syntax.specs.Weights.{form_weight};
-ghost use Rattle.fr_expand.specs.Passes.{fault_kind, form_expr, form_kind, nests, nothing_yet, Earlier};
-ghost use Rattle.fr_expand.specs.Shaped.{earlier_of, refused_in, AreNamed};
+ghost use Rattle.fr_expand.specs.Items.{form_core};
+ghost use Rattle.fr_expand.specs.Passes.{fault_kind, form_kind, nests, nothing_yet, refusal_from};
+ghost use Rattle.fr_expand.specs.Shaped.{earlier_of, AreNamed};
 
 use crate::depth::depth;
 use crate::earlier::EarlierNames;
@@ -23,11 +24,26 @@ pub(crate) fn first_refusal(
     forms: &[Form],
 ) -> Result<Option<Refusal>, AllocError>
     requires { total (map form_weight forms.now) ≤ 8388608 }
-    ensures { IfOk result (λ r. r ≡ refused_in globals.now 1 nothing_yet forms.now) }
+    ensures { IfOk result (λ r. r ≡ refusal_from globals.now 1 nothing_yet (map Some forms.now)) }
 {
     let mut earlier = EarlierNames::none(alloc);
+    refusal_behind(alloc, globals, &mut earlier, forms)
+}
+
+/// The first refusal of forms behind earlier ones that gave these names. They are numbered from 1.
+fn refusal_behind<'a>(
+    alloc: Global,
+    globals: &Globals,
+    earlier: &mut EarlierNames<'a>,
+    forms: &'a [Form],
+) -> Result<Option<Refusal>, AllocError>
+    requires named { AreNamed earlier.old.values }
+    requires few { length earlier.old.values ≤ 8388608 }
+    requires small { total (map form_weight forms.now) ≤ 8388608 }
+    ensures { IfOk result (λ r. r ≡ refusal_from globals.now 1 (earlier_of earlier.old) (map Some forms.now)) }
+{
     for (at, form) in forms.iter().enumerate() {
-        if let Some(kind) = form_kind(alloc, globals, &mut earlier, form)? {
+        if let Some(kind) = form_kind(alloc, globals, earlier, form)? {
             return Ok(Some(Refusal::at(at, kind)));
         }
         earlier.add(form)?;
@@ -72,7 +88,7 @@ fn fault_kind(faults: Faults) -> Option<Kind>
 
 /// Whether the core expression of a form nests too deep.
 fn nests_too_deep(form: &Form) -> bool
-    ensures { (globals : List GlobalName) → (earlier : Earlier) → result ≡ nat_lt 500 (nests globals (form_expr earlier form.now)) }
+    ensures { (globals : List GlobalName) → (values : List (List ℕ)) → result ≡ nat_lt 500 (nests (form_core globals values form.now)) }
 {
     match form {
         Form::Input(..) | Form::Event(_) => false,

@@ -1,21 +1,24 @@
-ghost use Rattle.std.specs.Prelude.{◌≡◌, ◌+◌, ◌<◌, ◌↔◌, length, IfSome, IsTrue, MatchOption};
+ghost use Rattle.std.specs.Prelude.{◌≡◌, ◌+◌, ◌<◌, ◌↔◌, ◌∷◌, ℕ, List, [], length, IfSome, IsTrue, MatchOption};
 ghost use Rattle.std.specs.Option.{option_copied};
 ghost use Rattle.std.specs.Slice.Iter.{iter_rest};
 ghost use Rattle.fr_purity.specs.Marks.{AreClasses};
-ghost use Rattle.fr_expand.specs.Cores.{core_of_form, cores_by, expr_of, functions_behind, items_behind, AreFit};
-ghost use Rattle.fr_expand.specs.Expansion.{IsFirstUnfit, IsFitForm};
+ghost use Rattle.fr_syntax.specs.Outlines.{Global as GlobalName};
+ghost use Rattle.fr_syntax.specs.declared.form.Form.{Form as PlainForm};
+ghost use Rattle.fr_expand.specs.Cores.{expr_of, AreGiven};
+ghost use Rattle.fr_expand.specs.Expansion.{cores_from, program_in, AreFit, IsFirstUnfit, IsFitForm};
+ghost use Rattle.fr_expand.specs.Items.{form_core, values_behind};
 
 use fr_core::{Core, Function, Item, Program};
 use fr_purity::{Classes, is_fit};
 use fr_syntax::Form;
 use std::slice::Iter;
 
-/// The place of the first form, counted from 0, in which the body of a handler or a loop isn't pure. The program is the one
-/// that the forms are, and the classes are the program's.
+/// The place of the first form, counted from 0, in which the body of a handler or a loop isn't pure, where the program is the
+/// one that the forms are. The classes are the program's.
 pub(crate) fn first_unfit(program: &Program, classes: &Classes, forms: &[Form]) -> Option<usize>
     requires { AreClasses program.now classes.now.closed.items classes.now.pure.items }
     ensures within { IfSome result (λ at. at < length forms.now) }
-    ensures found { let cores = cores_by forms.now program.now.functions program.now.body in
+    ensures found { (globals : List GlobalName) → program.now ≡ program_in globals forms.now → let cores = cores_from globals [] forms.now in
         MatchOption result (AreFit program.now cores) (λ at. IsFirstUnfit program.now cores (at + 1)) }
 {
     let mut functions = program.functions.as_slice().iter();
@@ -29,15 +32,15 @@ pub(crate) fn first_unfit(program: &Program, classes: &Classes, forms: &[Form]) 
     None
 }
 
-/// The core expression of a form, if it has one: it is that of the next function or of the next item.
+/// The core expression of a form, if it has one, where it and the forms behind it give these functions and items: it is that
+/// of the next function or of the next item. What the forms behind it give is left.
 fn core_of_form<'a>(
     form: &Form,
     functions: &mut Iter<'a, Function>,
     items: &mut Iter<'a, Item>,
 ) -> Option<&'a Core>
-    ensures core { option_copied result ≡ core_of_form form.now (iter_rest functions.old) (iter_rest items.old) }
-    ensures functions { iter_rest functions.new ≡ functions_behind form.now (iter_rest functions.old) }
-    ensures items { iter_rest items.new ≡ items_behind form.now (iter_rest items.old) }
+    ensures { (globals : List GlobalName) (values : List (List ℕ)) (forms : List PlainForm) → AreGiven globals values (form.now ∷ forms) (iter_rest functions.old) (iter_rest items.old)
+        → (option_copied result ≡ form_core globals values form.now) × AreGiven globals (values_behind values form.now) forms (iter_rest functions.new) (iter_rest items.new) }
 {
     match form {
         Form::Function(..) => match functions.next() {

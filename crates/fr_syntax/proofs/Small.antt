@@ -43,7 +43,7 @@ abbrev pub bound_weight : Bindings → ℕ
 bound_weight x = length x.0 + all_weights x.1
 
 abbrev pub clauses_weight : Clauses → ℕ
-clauses_weight x = all_weights x.0 + all_weights x.1 + weight x.2
+clauses_weight x = all_weights x.0.0 + all_weights x.0.1 + weight x.1
 
 abbrev pub lambda_weight : List (List ℕ) × Expr → ℕ
 lambda_weight x = length x.0 + weight x.1
@@ -159,11 +159,11 @@ test_small below small d =
 pub clauses_small : (below : Below) → IsSmall below → (ds : List Datum) → AtMost clauses_weight (all_sizes ds) (clauses below ds)
 clauses_small below small [] = tt
 clauses_small below small (d ∷ []) =
-    map_small (λ e. ([], [], e)) (else_clause below d) weight clauses_weight (datum_size d) (all_sizes (d ∷ [])) (last_small below small d) (λ e h. omega (arith, h))
+    map_small (λ e. (([], []), e)) (else_clause below d) weight clauses_weight (datum_size d) (all_sizes (d ∷ [])) (last_small below small d) (λ e h. omega (arith, h))
 clauses_small below small (d ∷ u ∷ ds) =
-    then_small (λ c. option_map (λ cs. (c.0 ∷ cs.0, c.1 ∷ cs.1, cs.2)) (clauses below (u ∷ ds))) (test_clause below d) two_weights clauses_weight (datum_size d) (all_sizes (d ∷ u ∷ ds))
+    then_small (λ c. option_map (λ cs. ((c.0 ∷ cs.0.0, c.1 ∷ cs.0.1), cs.1)) (clauses below (u ∷ ds))) (test_clause below d) two_weights clauses_weight (datum_size d) (all_sizes (d ∷ u ∷ ds))
     (test_small below small d)
-    (λ c h. map_small (λ cs. (c.0 ∷ cs.0, c.1 ∷ cs.1, cs.2)) (clauses below (u ∷ ds)) clauses_weight clauses_weight (all_sizes (u ∷ ds)) (all_sizes (d ∷ u ∷ ds))
+    (λ c h. map_small (λ cs. ((c.0 ∷ cs.0.0, c.1 ∷ cs.0.1), cs.1)) (clauses below (u ∷ ds)) clauses_weight clauses_weight (all_sizes (u ∷ ds)) (all_sizes (d ∷ u ∷ ds))
     (clauses_small below small (u ∷ ds)) (λ cs k. omega (arith, h, k)))
 
 params_small : (d : Datum) → AtMost length (datum_size d) (option_and_then symbols (items_of (value_of d)))

@@ -110,10 +110,10 @@ merge_small below small [] = tt
 merge_small below small (a ∷ []) = tt
 merge_small below small (a ∷ b ∷ ds) = many_small below small expr.MergeE weight-MergeE (a ∷ b ∷ ds)
 
-cond_small : (below : Below) → IsSmall below → (ds : List Datum) → AtMost weight (1 + all_sizes ds) (option_map (λ cs. expr.Cond cs.0 cs.1 cs.2) (clauses below ds))
+cond_small : (below : Below) → IsSmall below → (ds : List Datum) → AtMost weight (1 + all_sizes ds) (option_map (λ cs. expr.Cond cs.0.0 cs.0.1 cs.1) (clauses below ds))
 cond_small below small ds =
-    map_small (λ cs. expr.Cond cs.0 cs.1 cs.2) (clauses below ds) clauses_weight weight (all_sizes ds) (1 + all_sizes ds) (clauses_small below small ds)
-    (λ cs h. omega (arith, h, weight-Cond cs.0 cs.1 cs.2))
+    map_small (λ cs. expr.Cond cs.0.0 cs.0.1 cs.1) (clauses below ds) clauses_weight weight (all_sizes ds) (1 + all_sizes ds) (clauses_small below small ds)
+    (λ cs h. omega (arith, h, weight-Cond cs.0.0 cs.0.1 cs.1))
 
 quote_small : (ds : List Datum) → AtMost weight (1 + all_sizes ds) (option_map (λ d. expr.Literal (value_of d)) (one_in ds))
 quote_small ds = map_small (λ d. expr.Literal (value_of d)) (one_in ds) datum_size weight (all_sizes ds) (1 + all_sizes ds) (ones ds) (λ d h. omega (arith, weight-Literal (value_of d)))

@@ -12,17 +12,19 @@ use Rattle.fr_syntax.specs.declared.layouts.Layout.{Layout}
 use Rattle.fr_syntax.specs.declared.layouts.Layout.TheVariants as layout
 use Rattle.fr_syntax.specs.declared.layouts.Single.{Single}
 use Rattle.fr_syntax.specs.declared.layouts.Single.TheVariants as single
+use Rattle.fr_syntax.specs.declared.layouts.Handler.{Handler}
+use Rattle.fr_syntax.specs.declared.layouts.Handler.TheVariants as handler
 use Rattle.fr_syntax.specs.declared.layouts.Double.{Double}
 use Rattle.fr_syntax.specs.declared.layouts.Double.TheVariants as double
+use Rattle.fr_syntax.specs.declared.layouts.Collector.{Collector}
+use Rattle.fr_syntax.specs.declared.layouts.Collector.TheVariants as collector
 use Rattle.fr_syntax.specs.declared.layouts.Triple.{Triple}
 use Rattle.fr_syntax.specs.declared.layouts.Triple.TheVariants as triple
 use Rattle.fr_syntax.specs.declared.layouts.Many.{Many}
 use Rattle.fr_syntax.specs.declared.layouts.Many.TheVariants as many
 use Rattle.fr_syntax.specs.declared.layouts.Binder.{Binder}
 use Rattle.fr_syntax.specs.declared.layouts.Binder.TheVariants as binder
-use Rattle.fr_syntax.specs.declared.handlers.Handler.{Handler}
-use Rattle.fr_syntax.specs.declared.handlers.Collector.{Collector}
-use Rattle.fr_syntax.specs.Shapes.{Below, Bindings, Clauses, symbols, each, both, bindings, test_clause, clauses}
+use Rattle.fr_syntax.specs.Shapes.{Below, Bindings, symbols, each, both, bindings, test_clause, clauses}
 use Rattle.fr_syntax.specs.Shapes.{triple as all_three}
 
 -- the data of borrowed values
@@ -46,6 +48,15 @@ two_at x = (datum_of x.0.now, datum_of x.1.now)
 abbrev pub three_at : Bor Value × Bor Value × Bor Value → Datum × Datum × Datum
 three_at x = (datum_of x.0.now, datum_of x.1.now, datum_of x.2.now)
 
+-- the expression of a form with a handler of one parameter, of two
+abbrev pub handler_of : Handler → List ℕ → Expr → Expr → Expr
+handler_of handler.MapE n a b = expr.MapE n a b
+handler_of handler.FilterE n a b = expr.FilterE n a b
+
+abbrev pub collector_of : Collector → Expr → Expr → List ℕ → List ℕ → Expr → Expr
+collector_of collector.CollectB a b n m c = expr.CollectB a b n m c
+collector_of collector.CollectE a b n m c = expr.CollectE a b n m c
+
 -- the expression of a form of one, two, three expressions
 abbrev pub single_of : Single → Expr → Expr
 single_of single.Changes a = expr.Changes a
@@ -55,16 +66,14 @@ single_of single.DelayE a = expr.DelayE a
 abbrev pub double_of : Double → Expr → Expr → Expr
 double_of double.Hold a b = expr.Hold a b
 double_of double.Delay a b = expr.Delay a b
-double_of (double.MapE n) a b = expr.MapE n.now a b
-double_of (double.FilterE n) a b = expr.FilterE n.now a b
+double_of (double.Handler h n) a b = handler_of h n.now a b
 double_of (double.Feedback n) a b = expr.Feedback n.now a b
 
 abbrev pub triple_of : Triple → Expr → Expr → Expr → Expr
 triple_of triple.If a b c = expr.If a b c
 triple_of (triple.Fold n m) a b c = expr.Fold n.now m.now a b c
 triple_of (triple.Repeat n) a b c = expr.Repeat n.now a b c
-triple_of (triple.CollectB n m) a b c = expr.CollectB a b n.now m.now c
-triple_of (triple.CollectE n m) a b c = expr.CollectE a b n.now m.now c
+triple_of (triple.Collector k n m) a b c = collector_of k a b n.now m.now c
 
 -- the expression of a form of any number of expressions
 abbrev pub many_of : Many → List Expr → Expr
@@ -87,13 +96,6 @@ abbrev pub clauses_before : Below → List Datum → Option (List Expr × List E
 clauses_before below [] = Some ([], [])
 clauses_before below (d ∷ ds) = option_and_then (λ c. option_map (λ cs. (c.0 ∷ cs.0, c.1 ∷ cs.1)) (clauses_before below ds)) (test_clause below d)
 
-abbrev pub parted : Clauses → (List Expr × List Expr) × Expr
-parted x = ((x.0, x.1), x.2)
-
--- the clauses of a `cond`: tests and their expressions, and the expression of the last
-abbrev pub cond_parts : Below → List Datum → Option ((List Expr × List Expr) × Expr)
-cond_parts below ds = option_map parted (clauses below ds)
-
 -- the expression of a form, where the data in it are shaped so
 abbrev pub filled : Below → Layout → Option Expr
 filled below (layout.Literal v) = Some (expr.Literal v.now)
@@ -103,7 +105,7 @@ filled below (layout.Two k a b) = option_map (λ x. double_of k x.0 x.1) (both b
 filled below (layout.Three k a b c) = option_map (λ x. triple_of k x.0 x.1 x.2) (all_three below (three_at (a, b, c)))
 filled below (layout.Many k vs) = option_map (many_of k) (each below (data_at vs))
 filled below (layout.Bindings k bs body) = option_map (λ x. binder_of k x.0.0 x.0.1 x.1) (bound below (listed_at bs) (datum_at body))
-filled below (layout.Cond cs) = option_map (λ x. expr.Cond x.0.0 x.0.1 x.1) (cond_parts below (data_at cs))
+filled below (layout.Cond cs) = option_map (λ x. expr.Cond x.0.0 x.0.1 x.1) (clauses below (data_at cs))
 
 -- the expression of one value, the expressions of two
 abbrev pub shaped_at : Below → Bor Value → Option Expr
@@ -123,11 +125,3 @@ lambda_in below x = option_and_then (λ ps. option_map (λ b. (ps, b)) (below (d
 -- two names, and the expression behind them
 abbrev pub two_named_in : Below → Bor (List ℕ) × Bor (List ℕ) × Bor Value → Option (List ℕ × List ℕ × Expr)
 two_named_in below x = option_map (λ e. (x.0.now, x.1.now, e)) (below (datum_at x.2))
-
--- what such a form makes of a handler of one parameter and its event
-abbrev pub handled : Below → (List ℕ → Expr → Expr → Expr) → Handler → Option Expr
-handled below make x = option_map (λ y. make x.payload.now y.0 y.1) (both below (two_at (x.body, x.event)))
-
--- what such a form makes of a handler of two parameters, its event and its first state
-abbrev pub collected : Below → (Expr → Expr → List ℕ → List ℕ → Expr → Expr) → Collector → Option Expr
-collected below make x = option_map (λ y. make y.0 y.1 x.payload.now x.state.now y.2) (all_three below (three_at (x.event, x.first, x.body)))

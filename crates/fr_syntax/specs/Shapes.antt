@@ -88,14 +88,14 @@ test_with below k x = both below x
 abbrev pub test_clause : Below → Datum → Option (Expr × Expr)
 test_clause below d = option_and_then (λ x. test_with below (keyword_of (value_of x.0)) x) (option_and_then two_in (items_of (value_of d)))
 
--- the clauses of a `cond`: tests, their expressions, and the expression of the last, which is `(else EXPR)`
+-- the clauses of a `cond`: tests and their expressions, and the expression of the last, which is `(else EXPR)`
 abbrev pub Clauses : Type 0
-Clauses = List Expr × List Expr × Expr
+Clauses = (List Expr × List Expr) × Expr
 
 abbrev pub clauses : Below → List Datum → Option Clauses
 clauses below [] = None
-clauses below (d ∷ []) = option_map (λ e. ([], [], e)) (else_clause below d)
-clauses below (d ∷ ds) = option_and_then (λ c. option_map (λ cs. (c.0 ∷ cs.0, c.1 ∷ cs.1, cs.2)) (clauses below ds)) (test_clause below d)
+clauses below (d ∷ []) = option_map (λ e. (([], []), e)) (else_clause below d)
+clauses below (d ∷ ds) = option_and_then (λ c. option_map (λ cs. ((c.0 ∷ cs.0.0, c.1 ∷ cs.0.1), cs.1)) (clauses below ds)) (test_clause below d)
 
 -- the single binding in a list `((NAME EXPR))`
 abbrev pub lone_binding : Below → Datum → Option (List ℕ × Expr)
@@ -169,7 +169,7 @@ keyword_form below keyword.Quote ds = option_map (λ d. expr.Literal (value_of d
 keyword_form below keyword.If ds = three_parts below expr.If ds
 keyword_form below keyword.Let ds = let_form below expr.Let ds
 keyword_form below keyword.LetStar ds = let_form below expr.LetStar ds
-keyword_form below keyword.Cond ds = option_map (λ cs. expr.Cond cs.0 cs.1 cs.2) (clauses below ds)
+keyword_form below keyword.Cond ds = option_map (λ cs. expr.Cond cs.0.0 cs.0.1 cs.1) (clauses below ds)
 keyword_form below keyword.And ds = option_map expr.And (each below ds)
 keyword_form below keyword.Or ds = option_map expr.Or (each below ds)
 keyword_form below keyword.ForFold ds = fold_form below ds

@@ -2,8 +2,8 @@ ghost use Rattle.std.specs.Prelude.{◌≡◌, IfOk};
 ghost use Rattle.std.specs.Option.{option_map};
 ghost use Rattle.fr_syntax.specs.declared.expr.Expr.TheVariants as expr;
 ghost use Rattle.fr_value.specs.Data.{datum_of, data_of};
-ghost use Rattle.fr_syntax.specs.Shapes.{expr_to, each, both as pair, triple, bindings};
-ghost use Rattle.fr_syntax.specs.Layouts.{filled, bound, clauses_before, cond_parts};
+ghost use Rattle.fr_syntax.specs.Shapes.{expr_to, each, both as pair, triple, bindings, clauses};
+ghost use Rattle.fr_syntax.specs.Layouts.{filled, bound, clauses_before};
 
 use crate::bindings::binding;
 use crate::clauses::{else_part, test_parts};
@@ -169,7 +169,7 @@ fn cond_parts(
     levels: u32,
     items: &[Value],
 ) -> Result<Option<((Items<Expr>, Items<Expr>), Expr)>, AllocError>
-    ensures { IfOk result (λ x. x ≡ cond_parts (expr_to levels) (data_of items.now)) }
+    ensures { IfOk result (λ x. x ≡ clauses (expr_to levels) (data_of items.now)) }
 {
     let Some((last, first)) = items.split_last() else {
         return Ok(None);

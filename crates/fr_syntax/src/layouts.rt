@@ -1,7 +1,7 @@
 ghost use Rattle.std.specs.Prelude.{◌≡◌, IfOk};
 ghost use Rattle.std.specs.Option.{option_map};
 ghost use Rattle.fr_syntax.specs.declared.expr.Expr.TheVariants as expr;
-ghost use Rattle.fr_syntax.specs.Layouts.{single_of, double_of, triple_of, many_of, binder_of};
+ghost use Rattle.fr_syntax.specs.Layouts.{single_of, handler_of, double_of, collector_of, triple_of, many_of, binder_of};
 
 use crate::expr::Expr;
 use crate::parts::{boxed_beside, named, named_twice, three_boxed, two_boxed};
@@ -38,14 +38,27 @@ pub(crate) enum Single {
     DelayE,
 }
 
+/// A form with a handler of one parameter.
+#[derive(Clone, Copy)]
+pub(crate) enum Handler {
+    MapE,
+    FilterE,
+}
+
 /// A form of two expressions, with the name that it binds.
 #[derive(Clone, Copy)]
 pub(crate) enum Double<'a> {
     Hold,
     Delay,
-    MapE(&'a Symbol),
-    FilterE(&'a Symbol),
+    Handler(Handler, &'a Symbol),
     Feedback(&'a Symbol),
+}
+
+/// A form with a handler of two parameters.
+#[derive(Clone, Copy)]
+pub(crate) enum Collector {
+    CollectB,
+    CollectE,
 }
 
 /// A form of three expressions, with the names that it binds.
@@ -54,8 +67,7 @@ pub(crate) enum Triple<'a> {
     If,
     Fold(&'a Symbol, &'a Symbol),
     Repeat(&'a Symbol),
-    CollectB(&'a Symbol, &'a Symbol),
-    CollectE(&'a Symbol, &'a Symbol),
+    Collector(Collector, &'a Symbol, &'a Symbol),
 }
 
 /// A form of any number of expressions.
@@ -96,6 +108,18 @@ impl Single {
     }
 }
 
+impl Handler {
+    /// The expression of this form with its parameter, its body and its event.
+    fn of(self, payload: Symbol, body: Boxed<Expr>, event: Boxed<Expr>) -> Expr
+        ensures { result ≡ handler_of self payload body event }
+    {
+        match self {
+            Handler::MapE => Expr::MapE(payload, body, event),
+            Handler::FilterE => Expr::FilterE(payload, body, event),
+        }
+    }
+}
+
 impl Double<'_> {
     /// The expression of this form with its parts, where they are there.
     pub(crate) fn with(
@@ -118,19 +142,34 @@ impl Double<'_> {
         Ok(match self {
             Double::Hold => Expr::Hold(a, b),
             Double::Delay => Expr::Delay(a, b),
-            Double::MapE(payload) => {
+            Double::Handler(handler, payload) => {
                 let (payload, (a, b)) = named(payload, (a, b))?;
-                Expr::MapE(payload, a, b)
-            }
-            Double::FilterE(payload) => {
-                let (payload, (a, b)) = named(payload, (a, b))?;
-                Expr::FilterE(payload, a, b)
+                handler.of(payload, a, b)
             }
             Double::Feedback(name) => {
                 let (name, (a, b)) = named(name, (a, b))?;
                 Expr::Feedback(name, a, b)
             }
         })
+    }
+}
+
+impl Collector {
+    /// The expression of this form with its event, its first state, its parameters and its body.
+    fn of(
+        self,
+        event: Boxed<Expr>,
+        first: Boxed<Expr>,
+        payload: Symbol,
+        state: Symbol,
+        body: Boxed<Expr>,
+    ) -> Expr
+        ensures { result ≡ collector_of self event first payload state body }
+    {
+        match self {
+            Collector::CollectB => Expr::CollectB(event, first, payload, state, body),
+            Collector::CollectE => Expr::CollectE(event, first, payload, state, body),
+        }
     }
 }
 
@@ -163,13 +202,9 @@ impl Triple<'_> {
                 let (acc, (a, b, c)) = named(acc, (a, b, c))?;
                 Expr::Repeat(acc, a, b, c)
             }
-            Triple::CollectB(payload, state) => {
+            Triple::Collector(collector, payload, state) => {
                 let (payload, (state, (a, b, c))) = named_twice(payload, state, (a, b, c))?;
-                Expr::CollectB(a, b, payload, state, c)
-            }
-            Triple::CollectE(payload, state) => {
-                let (payload, (state, (a, b, c))) = named_twice(payload, state, (a, b, c))?;
-                Expr::CollectE(a, b, payload, state, c)
+                collector.of(a, b, payload, state, c)
             }
         })
     }

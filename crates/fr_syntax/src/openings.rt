@@ -7,12 +7,12 @@ ghost use Rattle.fr_syntax.specs.declared.expr.Expr.TheVariants as expr;
 ghost use Rattle.fr_value.specs.declared.value.Value.TheVariants as value;
 ghost use Rattle.fr_syntax.specs.Keywords.{keyword_named as named};
 ghost use Rattle.fr_syntax.specs.Shapes.{Below, one_in, one_part, two_parts, three_parts, let_form, fold_form, repeat_form, feedback_form, event_handler_form, collect_form, merge_form, keyword_form, named_form, expr_at};
-ghost use Rattle.fr_syntax.specs.Layouts.{filled, single_of, double_of, triple_of, binder_of, AreItems};
+ghost use Rattle.fr_syntax.specs.Layouts.{filled, single_of, handler_of, double_of, collector_of, triple_of, binder_of, AreItems};
 
 use crate::bindings::{binding, lone_binding};
-use crate::handlers::{Collector, Handler, collector_in, handler_in};
+use crate::handlers::{one_param, two_params};
 use crate::keyword::{Keyword, keyword_named};
-use crate::layouts::{Binder, Double, Layout, Many, Single, Triple};
+use crate::layouts::{Binder, Collector, Double, Handler, Layout, Many, Single, Triple};
 use crate::lists::{list_of, one_in, three_in, two_in};
 use crate::outlines::symbol_of;
 use fr_value::{Symbol, Value};
@@ -61,12 +61,12 @@ fn keyword_layout(keyword: Keyword, rest: &[Value]) -> Option<Layout<'_>>
         Keyword::Or => Some(Layout::Many(Many::Or, rest)),
         Keyword::ForFold => fold(rest),
         Keyword::Repeat => repeat(rest),
-        Keyword::MapE => map_e(rest),
-        Keyword::FilterE => filter_e(rest),
+        Keyword::MapE => handled(Handler::MapE, rest),
+        Keyword::FilterE => handled(Handler::FilterE, rest),
         Keyword::MergeE => merge_e(rest),
         Keyword::Hold => double(Double::Hold, rest),
-        Keyword::CollectB => collect_b(rest),
-        Keyword::CollectE => collect_e(rest),
+        Keyword::CollectB => collected(Collector::CollectB, rest),
+        Keyword::CollectE => collected(Collector::CollectE, rest),
         Keyword::Changes => single(Single::Changes, rest),
         Keyword::OnceE => single(Single::OnceE, rest),
         Keyword::Delay => double(Double::Delay, rest),
@@ -143,27 +143,21 @@ fn feedback(rest: &[Value]) -> Option<Layout<'_>>
 }
 
 /// `(lambda (PAYLOAD) BODY) EVENT`
-fn map_e(rest: &[Value]) -> Option<Layout<'_>>
-    ensures { (below : Below) → option_and_then (filled below) result ≡ event_handler_form below expr.MapE (data_of rest.now) }
+fn handled(form: Handler, rest: &[Value]) -> Option<Layout<'_>>
+    ensures { (below : Below) → option_and_then (filled below) result ≡ event_handler_form below (handler_of form) (data_of rest.now) }
 {
-    let Handler {
-        payload,
-        body,
-        event,
-    } = handler_in(rest)?;
-    Some(Layout::Two(Double::MapE(payload), body, event))
+    let (lambda, event) = two_in(rest)?;
+    let (payload, body) = one_param(lambda)?;
+    Some(Layout::Two(Double::Handler(form, payload), body, event))
 }
 
-/// `(lambda (PAYLOAD) BODY) EVENT`
-fn filter_e(rest: &[Value]) -> Option<Layout<'_>>
-    ensures { (below : Below) → option_and_then (filled below) result ≡ event_handler_form below expr.FilterE (data_of rest.now) }
+/// `EVENT INIT (lambda (PAYLOAD STATE) BODY)`
+fn collected(form: Collector, rest: &[Value]) -> Option<Layout<'_>>
+    ensures { (below : Below) → option_and_then (filled below) result ≡ collect_form below (collector_of form) (data_of rest.now) }
 {
-    let Handler {
-        payload,
-        body,
-        event,
-    } = handler_in(rest)?;
-    Some(Layout::Two(Double::FilterE(payload), body, event))
+    let (event, first, lambda) = three_in(rest)?;
+    let (payload, state, body) = two_params(lambda)?;
+    Some(Layout::Three(Triple::Collector(form, payload, state), event, first, body))
 }
 
 /// `EVENT EVENT ...`, two or more
@@ -174,32 +168,4 @@ fn merge_e(rest: &[Value]) -> Option<Layout<'_>>
         [_, _, ..] => Some(Layout::Many(Many::MergeE, rest)),
         _ => None,
     }
-}
-
-/// `EVENT INIT (lambda (PAYLOAD STATE) BODY)`
-fn collect_b(rest: &[Value]) -> Option<Layout<'_>>
-    ensures { (below : Below) → option_and_then (filled below) result ≡ collect_form below expr.CollectB (data_of rest.now) }
-{
-    let Collector {
-        event,
-        first,
-        payload,
-        state,
-        body,
-    } = collector_in(rest)?;
-    Some(Layout::Three(Triple::CollectB(payload, state), event, first, body))
-}
-
-/// `EVENT INIT (lambda (PAYLOAD STATE) BODY)`
-fn collect_e(rest: &[Value]) -> Option<Layout<'_>>
-    ensures { (below : Below) → option_and_then (filled below) result ≡ collect_form below expr.CollectE (data_of rest.now) }
-{
-    let Collector {
-        event,
-        first,
-        payload,
-        state,
-        body,
-    } = collector_in(rest)?;
-    Some(Layout::Three(Triple::CollectE(payload, state), event, first, body))
 }
