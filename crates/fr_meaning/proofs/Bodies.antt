@@ -1,21 +1,19 @@
 -- What holds of all that the evaluation of a program's body visits.
-use Rattle.std.proofs.Common.{◌≡◌, ◌≤◌, ◌⊎◌, ◌↔◌, ℕ, ◌+◌, ◌-◌, List, [], ◌∷◌, ◌++◌, map, refl, sym, ap, ◌∙◌, inl, inr, arith, subst, Some, None}
+use Rattle.std.proofs.Common.{◌≡◌, ◌≤◌, ◌⊎◌, ◌↔◌, ℕ, ◌+◌, List, [], ◌∷◌, ◌++◌, map, refl, sym, ◌∙◌, inl, inr, arith, subst, Some, None}
 use Rattle.std.specs.List.{AllByRecursion}
 use Rattle.std.specs.Option.{option_or}
 use Rattle.std.proofs.lemmas.List.{map-append}
 use Rattle.fr_value.specs.Data.{total}
 use Rattle.fr_value.specs.declared.now.Now.{Now}
-use Rattle.fr_core.specs.declared.core_form.Core.{Core}
 use Rattle.fr_core.specs.declared.kept.Kept.{Kept}
 use Rattle.fr_core.specs.declared.program.Item.{Item}
 use Rattle.fr_core.specs.declared.program.Item.TheVariants as item
 use Rattle.fr_core.specs.declared.program.Program.{Program}
-use Rattle.fr_meaning.specs.Words.{Seen, Env, First, Done, under}
-use Rattle.fr_meaning.specs.Cells.{child}
+use Rattle.fr_meaning.specs.Words.{Seen, First, Done, under}
 use Rattle.fr_meaning.specs.Evaluation.{World, world_of, eval}
 use Rattle.fr_meaning.specs.Afresh.{Evaluated, join_item, items, body}
 use Rattle.fr_meaning.specs.Dependence.{with_bound}
-use Rattle.fr_meaning.specs.Visits.{Binding, env_of, places, Visit, answer, given, all_visits, visits, own_cost, first_error, placed, item_visit, item_visits, body_visits}
+use Rattle.fr_meaning.specs.Visits.{Binding, env_of, places, Visit, answer, given, visits, own_cost, first_error, placed, item_visit, item_visits, body_visits}
 use Rattle.fr_meaning.specs.Order.{AreRising, StandsWhole, IsOneOf, IsReady, outer_places, AreReady, UsesEarlier, ErrsNowhere}
 use Rattle.fr_meaning.proofs.Order.{IsLeftOf}
 use Rattle.fr_meaning.proofs.Each.{each, each_weaker}

@@ -1,5 +1,5 @@
 -- An evaluation depends only on the values of the variables in scope that its visits use, shape by shape.
-use Rattle.std.proofs.Common.{◌≡◌, ◌≤◌, ℕ, ◌+◌, zero, suc, List, [], ◌∷◌, ◌++◌, map, length, slice_get, refl, sym, ap, ◌∙◌, arith, subst, Some, None, Option, Result, Ok, Err}
+use Rattle.std.proofs.Common.{◌≡◌, ◌≤◌, ℕ, ◌+◌, zero, suc, List, [], ◌∷◌, ◌++◌, map, length, slice_get, refl, sym, ap, ◌∙◌, arith, subst, Some, Result, Ok, Err}
 use Rattle.std.specs.List.{AllByRecursion}
 use Rattle.std.proofs.lemmas.List.{map-append}
 use Rattle.fr_value.specs.declared.now.Bad.{Bad}
@@ -10,8 +10,8 @@ use Rattle.fr_core.specs.declared.kept.Kept.TheVariants as kept
 use Rattle.fr_meaning.specs.Words.{Seen, Env, Done, under, found, part}
 use Rattle.fr_meaning.specs.Cells.{child}
 use Rattle.fr_meaning.specs.States.{Line, Called, Begun, known, asks, finished, of_operator, of_handler, of_feedback, fed, no_call, handler_begin, handler_end, state_now}
-use Rattle.fr_meaning.specs.Evaluation.{World, parts, no_parts, join_part, leaf, after_parts, Choice, choose, choice_kept, choice_done, switch_done, call_done, body_for, turned, turns, all_turns, rounds, turns_done, loop_done, body_with, handler, line_done, form_cell, behind_cell, layer, eval_to}
-use Rattle.fr_meaning.specs.Visits.{Binding, env_of, Visit, paths, answer, part_at, part_visit, part_visits, part_values, given_by, choice_visits, handler_visits, round_binding, turn_visit, given, turn_visits, loop_visits, inside_shape, inside_to, inside, place_of, variable_place, reads_to}
+use Rattle.fr_meaning.specs.Evaluation.{World, parts, no_parts, join_part, leaf, after_parts, Choice, choose, choice_done, switch_done, call_done, body_for, turned, turns, all_turns, rounds, turns_done, loop_done, body_with, handler, line_done, form_cell, behind_cell, layer, eval_to}
+use Rattle.fr_meaning.specs.Visits.{Binding, env_of, Visit, paths, answer, part_visit, part_visits, given_by, choice_visits, handler_visits, round_binding, turn_visit, given, turn_visits, loop_visits, inside_shape, inside_to, inside, place_of, variable_place, reads_to}
 use Rattle.fr_meaning.specs.Order.{AgreeWhere}
 use Rattle.fr_meaning.proofs.Begins.{BeginsWell, begins_well}
 use Rattle.fr_meaning.proofs.Told.{few_values, given_env, round_env}

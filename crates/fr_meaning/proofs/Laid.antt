@@ -1,5 +1,5 @@
 -- How the visits inside one are laid out, shape by shape: their places stand apart in rising order, and each has its variables and what it waits for from the whole or from earlier ones.
-use Rattle.std.proofs.Common.{◌≡◌, ◌<◌, ◌≤◌, ◌⊎◌, ℕ, ◌+◌, zero, suc, List, [], ◌∷◌, ◌++◌, map, length, slice_get, refl, sym, ap, ◌∙◌, inl, inr, arith, subst, Option, Some, None, Result, Ok, Err}
+use Rattle.std.proofs.Common.{◌≡◌, ◌<◌, ◌≤◌, ◌⊎◌, ℕ, ◌+◌, zero, suc, List, [], ◌∷◌, ◌++◌, map, length, slice_get, refl, ap, ◌∙◌, inl, inr, arith, subst, Option, Some, None, Result, Ok, Err}
 use Rattle.std.specs.List.{AllByRecursion}
 use Rattle.std.proofs.lemmas.List.{append_assoc, append-nil}
 use Rattle.fr_value.specs.declared.now.Bad.{Bad}
@@ -14,7 +14,7 @@ use Rattle.fr_meaning.specs.Visits.{Binding, places, Visit, paths, answer, part_
 use Rattle.fr_meaning.specs.Order.{IsOneOf, outer_places}
 use Rattle.fr_meaning.proofs.Begins.{IsBehindTest, behind_test, TurnsWell, rounds_well}
 use Rattle.fr_meaning.proofs.Order.{IsLeftOf, left_under}
-use Rattle.fr_meaning.proofs.Each.{each, each_weaker, each_append, each_is_one}
+use Rattle.fr_meaning.proofs.Each.{each_weaker, each_append, each_is_one}
 
 -- a visit on this level in a part of these numbers, or inside one, of what stands at this place
 pub record Begins (at : List ℕ) (n lo hi : ℕ) (u : Visit) : Type 0 where

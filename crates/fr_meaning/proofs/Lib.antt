@@ -1,4 +1,5 @@
 pub mod Levels
+mod Examples
 pub mod Named
 pub mod Begins
 pub mod Pure

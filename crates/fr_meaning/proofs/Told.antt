@@ -1,21 +1,18 @@
 -- What an evaluation answers follows from what is inside it, shape by shape: it costs what that costs and the calls that it makes, and errs where that does or it does itself.
-use Rattle.std.proofs.Common.{◌≡◌, ◌≤◌, ℕ, ◌+◌, zero, suc, Bool, true, false, List, [], ◌∷◌, ◌++◌, map, length, slice_get, refl, sym, ap, ◌∙◌, arith, subst, Option, Some, None, Result, Ok, Err}
+use Rattle.std.proofs.Common.{◌≡◌, ◌≤◌, ℕ, ◌+◌, zero, suc, List, [], ◌∷◌, ◌++◌, map, length, slice_get, refl, sym, ap, ◌∙◌, arith, subst, Option, Some, None, Result, Ok, Err}
 use Rattle.std.specs.Option.{option_or}
 use Rattle.std.proofs.lemmas.List.{append_assoc, append-nil, map-append}
-use Rattle.fr_value.specs.declared.value.Value.{Value}
 use Rattle.fr_value.specs.declared.now.Bad.{Bad}
 use Rattle.fr_value.specs.declared.now.Bad.TheVariants.{Arity, Deep}
 use Rattle.fr_core.specs.declared.core_form.Core.{Core, out-Core}
 use Rattle.fr_core.specs.declared.core_form.Core.TheOpen.{Core-F}
 use Rattle.fr_core.specs.declared.core_form.Handler.{Handler}
-use Rattle.fr_core.specs.declared.core_form.Operator.{Operator}
-use Rattle.fr_core.specs.declared.core_form.Operator.TheVariants as operator
 use Rattle.fr_core.specs.declared.kept.Kept.{Kept}
 use Rattle.fr_core.specs.declared.kept.Kept.TheVariants as kept
-use Rattle.fr_meaning.specs.Words.{Seen, Env, First, Done, under, own, part, event_of, datum_in}
+use Rattle.fr_meaning.specs.Words.{Seen, First, Done, under, own, part}
 use Rattle.fr_meaning.specs.Cells.{Cell, child}
 use Rattle.fr_meaning.specs.States.{Line, Called, Begun, known, asks, of_operator, of_handler, of_feedback, fed, state_next, handler_begin, handler_end, finished, no_call, state_now}
-use Rattle.fr_meaning.specs.Evaluation.{World, Ev, Parts, parts, no_parts, join_part, ended, after_parts, Choice, choose, choice_kept, switch_done, parts_only, call_done, body_for, turned, turns, rounds, all_turns, turns_done, body_with, handler, refusal_first, line_done, form_cell, behind_cell, layer, deep, eval_to}
+use Rattle.fr_meaning.specs.Evaluation.{World, Parts, parts, no_parts, join_part, ended, after_parts, Choice, choose, choice_kept, switch_done, call_done, body_for, turned, turns, rounds, all_turns, turns_done, body_with, handler, refusal_first, line_done, form_cell, behind_cell, layer, eval_to}
 use Rattle.fr_meaning.specs.Visits.{Binding, env_of, Visit, paths, answer, part_at, part_visit, part_visits, part_values, given_by, choice_visits, call_visits, handler_visits, round_binding, turn_visit, given, turn_visits, loop_visits, inside_shape, inside_to, inside, form_of, refusal_of, bad_of, error_at, placed}
 use Rattle.fr_meaning.proofs.Begins.{IsQuiet, BeginsWell, begins_well, beside_quiet, operator_quiet, handler_accepts}
 use Rattle.fr_meaning.proofs.Laid.{parts_length}

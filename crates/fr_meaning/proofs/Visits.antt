@@ -3,24 +3,19 @@ use Rattle.std.proofs.Common.{◌≡◌, ◌⊎◌, ◌↔◌, ℕ, ◌+◌, zer
 use Rattle.std.specs.List.{AllByRecursion, flat_map}
 use Rattle.std.specs.Option.{option_or}
 use Rattle.std.proofs.lemmas.List.{append_assoc, append-nil, map-append}
-use Rattle.std.proofs.lemmas.Grind.{flat_map-append}
 use Rattle.std.proofs.lemmas.List.Elements.{All-contains, All-from_recursion}
 use Rattle.fr_value.specs.Data.{total}
 use Rattle.fr_value.specs.declared.now.Bad.{Bad}
 use Rattle.fr_core.specs.WellFormed.{AreDistinct}
 use Rattle.fr_core.specs.declared.core_form.Core.{Core, out-Core}
 use Rattle.fr_core.specs.declared.core_form.Core.TheOpen.{Core-F}
-use Rattle.fr_core.specs.declared.kept.Kept.{Kept}
-use Rattle.fr_core.specs.declared.program.Item.{Item}
-use Rattle.fr_core.specs.declared.program.Item.TheVariants as item
-use Rattle.fr_core.specs.declared.program.Program.{Program}
 use Rattle.fr_core.proofs.PartLists.{total-append}
 use Rattle.fr_meaning.specs.Words.{First}
-use Rattle.fr_meaning.specs.Evaluation.{World, world_of}
+use Rattle.fr_meaning.specs.Evaluation.{World}
 use Rattle.fr_meaning.specs.Visits.{Binding, places, Visit, paths, answer, inside_shape, inside, visits_to, visits, all_visits, own_cost, own_error, error_at, first_error, placed, place_of, variable_place, reads_to, uses}
 use Rattle.fr_meaning.specs.Order.{EndsBefore, AreRising, IsWithin, StandsWhole, IsOneOf, IsReady, outer_places, AreReady, UsesEarlier, AgreeWhereUsed, ErrsNowhere}
 use Rattle.fr_meaning.proofs.Order.{never_itself, part_before, ready_before, ready_inside, IsLeftOf, left_within, left_before, left_ready, apart, apart_back, within_itself, within_further, whole_outside}
-use Rattle.fr_meaning.proofs.Each.{each, each_weaker, each_both, each_append, each_cut, each_flat, each_of_flat, each_flip, each_one, each_is_one, one_append, one_of_append}
+use Rattle.fr_meaning.proofs.Each.{each_weaker, each_both, each_append, each_cut, each_flat, each_of_flat, each_flip, each_one, each_is_one, one_append}
 use Rattle.fr_meaning.proofs.Laid.{Begins, AreApart, AreKnown, Laid, laid_shape, laid}
 use Rattle.fr_meaning.proofs.Told.{spent, firsts, follows}
 use Rattle.fr_meaning.proofs.Decided.{IsDecided, decided}
