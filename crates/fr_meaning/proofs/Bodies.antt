@@ -13,13 +13,13 @@ use Rattle.fr_meaning.specs.Words.{Seen, First, Done, under}
 use Rattle.fr_meaning.specs.Evaluation.{World, world_of, eval}
 use Rattle.fr_meaning.specs.Afresh.{Evaluated, join_item, items, body}
 use Rattle.fr_meaning.specs.Dependence.{with_bound}
-use Rattle.fr_meaning.specs.Visits.{Binding, env_of, places, Visit, answer, given, visits, own_cost, first_error, placed, item_visit, item_visits, body_visits}
-use Rattle.fr_meaning.specs.Order.{AreRising, StandsWhole, IsOneOf, IsReady, outer_places, AreReady, UsesEarlier, ErrsNowhere}
+use Rattle.fr_meaning.specs.Visits.{Binding, env_of, places, Visit, answer, given, own_cost, first_error, placed, item_visit, item_visits, body_visits}
+use Rattle.fr_meaning.specs.Order.{AreRising, StandsWhole, IsOneOf, IsReady, UsesEarlier, ErrsNowhere}
 use Rattle.fr_meaning.proofs.Order.{IsLeftOf}
 use Rattle.fr_meaning.proofs.Each.{each, each_weaker}
 use Rattle.fr_meaning.proofs.Laid.{AreApart, AreKnown, each_place}
 use Rattle.fr_meaning.proofs.Told.{spent, firsts}
-use Rattle.fr_meaning.proofs.Visits.{all_cost, costs_add_up, all_errors, first_is_found, none_found, all_rise, they_rise, all_together, they_stand_together, all_use, they_use}
+use Rattle.fr_meaning.proofs.Visits.{Whole, Adds, Errs, Rises, Together, Uses, all_cost, costs_add_up, all_errors, first_is_found, none_found, all_rise, they_rise, all_together, they_stand_together, all_use, they_use}
 
 under_place : (i : ℕ) (f : First) → under i f ≡ placed (i ∷ []) f
 under_place i None = refl
@@ -78,29 +78,29 @@ module _ (p : Program) (sources : List Now) (k : Kept) where
 
   pub body_costs_add_up : total (map (own_cost at_instant) (body_visits p sources k)) ≡ (body p sources k).cost
   body_costs_add_up =
-      let all = all_cost at_instant all_items (each (λ v. total (map (own_cost at_instant) (visits at_instant v)) ≡ (answer at_instant v).cost) (costs_add_up at_instant) all_items) in
+      let all = all_cost at_instant all_items (each (Whole at_instant (Adds at_instant)) (costs_add_up at_instant) all_items) in
       let free = items_free at_instant k [] 0 p.body in
       let told = (items_told at_instant k [] 0 p.body).spent_in in
       omega (arith, all, free, told)
 
   pub body_first_is_found : first_error at_instant (body_visits p sources k) ≡ (body p sources k).first
   body_first_is_found =
-      all_errors at_instant all_items (each (λ v. first_error at_instant (visits at_instant v) ≡ placed v.path (answer at_instant v).first) (first_is_found at_instant) all_items)
+      all_errors at_instant all_items (each (Whole at_instant (Errs at_instant)) (first_is_found at_instant) all_items)
       ∙ sym (items_told at_instant k [] 0 p.body).erred_in
 
   pub body_clean : ErrsNowhere at_instant (body_visits p sources k) ↔ ((body p sources k).first ≡ None)
   body_clean = subst (λ f. ErrsNowhere at_instant (body_visits p sources k) ↔ (f ≡ None)) body_first_is_found (none_found at_instant (body_visits p sources k))
 
   pub body_rises : AreRising (body_visits p sources k)
-  body_rises = all_rise at_instant all_items (items_apart at_instant k [] 0 p.body) (each (λ v. AreRising (visits at_instant v)) (they_rise at_instant) all_items)
+  body_rises = all_rise at_instant all_items (items_apart at_instant k [] 0 p.body) (each (Whole at_instant (Rises at_instant)) (they_rise at_instant) all_items)
 
   pub body_stands_together : AllByRecursion (StandsWhole at_instant (body_visits p sources k)) (body_visits p sources k)
   body_stands_together =
       all_together at_instant all_items (items_apart at_instant k [] 0 p.body)
-      (each (λ v. AllByRecursion (StandsWhole at_instant (visits at_instant v)) (visits at_instant v)) (they_stand_together at_instant) all_items)
+      (each (Whole at_instant (Together at_instant)) (they_stand_together at_instant) all_items)
 
   pub body_uses : AllByRecursion (UsesEarlier at_instant (body_visits p sources k) []) (body_visits p sources k)
   body_uses =
       all_use at_instant (IsOneOf []) all_items (items_apart at_instant k [] 0 p.body) (items_known at_instant k (IsOneOf []) [] 0 p.body tt)
       (each (λ u. (p : List ℕ) → IsOneOf [] p → IsReady u.path p) (λ u p h. absurd h) all_items)
-      (each (λ v. AreReady v (outer_places v) → AllByRecursion (UsesEarlier at_instant (visits at_instant v) (outer_places v)) (visits at_instant v)) (they_use at_instant) all_items)
+      (each (Whole at_instant (Uses at_instant)) (they_use at_instant) all_items)

@@ -21,6 +21,24 @@ use Rattle.fr_meaning.proofs.Told.{spent, firsts, follows}
 use Rattle.fr_meaning.proofs.Decided.{IsDecided, decided}
 use Rattle.fr_meaning.proofs.Prefixes.{first_of_three}
 
+-- the second visit stands within the first, or not
+abbrev Inner : Visit → Visit → Type 0
+Inner v u = IsWithin v.path u.path
+
+abbrev Outside : Visit → Visit → Type 0
+Outside v u = IsWithin v.path u.path → ⊥
+
+-- the first visit stands left of the second, or ends before it
+abbrev Left : Visit → Visit → Type 0
+Left u x = IsLeftOf u.path x.path
+
+abbrev Ends : Visit → Visit → Type 0
+Ends u x = EndsBefore u.path x.path
+
+-- the first visit is inside the second
+abbrev Deeper : Visit → Visit → Type 0
+Deeper v u = EndsBefore u.path v.path × (IsWithin u.path v.path → ⊥)
+
 module _ (w : World) where
   -- on the same level all visits are those of their own levels
   same_level : (n : ℕ) (us : List Visit) → AllByRecursion (λ u. u.level ≡ n) us → flat_map (visits_to n w) us ≡ all_visits w us
@@ -54,7 +72,7 @@ module _ (w : World) where
           step u (each_weaker (λ x. x.level ≡ n) P (λ x h. subst (λ m. P (record x { level = m })) (sym h) (at n x)) us (levels n u us (laid_shape w n u (out-Core v.expr))))
 
   -- what holds of a visit's list of visits, where it holds of one that ends in the visit
-  abbrev Whole : (Visit → List Visit → Type 0) → Visit → Type 0
+  abbrev pub Whole : (Visit → List Visit → Type 0) → Visit → Type 0
   Whole P v = P v (visits w v)
 
   pub by_visits : (P : Visit → List Visit → Type 0) → ((v : Visit) → AllByRecursion (Whole P) (inside w v) → P v (all_visits w (inside w v) ++ v ∷ [])) → (v : Visit) → P v (visits w v)
@@ -62,7 +80,7 @@ module _ (w : World) where
 
   -- the costs
 
-  abbrev Adds : Visit → List Visit → Type 0
+  abbrev pub Adds : Visit → List Visit → Type 0
   Adds v vs = total (map (own_cost w) vs) ≡ (answer w v).cost
 
   adds_append : (us vs : List Visit) → total (map (own_cost w) (us ++ vs)) ≡ total (map (own_cost w) us) + total (map (own_cost w) vs)
@@ -81,7 +99,7 @@ module _ (w : World) where
 
   -- the first error
 
-  abbrev Errs : Visit → List Visit → Type 0
+  abbrev pub Errs : Visit → List Visit → Type 0
   Errs v vs = first_error w vs ≡ placed v.path (answer w v).first
 
   errs_append : (us vs : List Visit) → first_error w (us ++ vs) ≡ option_or (first_error w us) (first_error w vs)
@@ -133,54 +151,54 @@ module _ (w : World) where
   -- where visits stand
 
   abbrev Within : Visit → List Visit → Type 0
-  Within v vs = AllByRecursion (λ u. IsWithin v.path u.path) vs
+  Within v vs = AllByRecursion (Inner v) vs
 
-  inside_within : (v : Visit) → AllByRecursion (λ u. IsWithin v.path u.path) (inside w v)
+  inside_within : (v : Visit) → AllByRecursion (Inner v) (inside w v)
   inside_within v =
       let h = laid w v in
-      each_weaker (Begins v.path h.0 0 h.1.last) (λ u. IsWithin v.path u.path) (λ u g. (g.number ∷ g.rest, g.path)) (inside w v) h.1.block.begin
+      each_weaker (Begins v.path h.0 0 h.1.last) (Inner v) (λ u g. (g.number ∷ g.rest, g.path)) (inside w v) h.1.block.begin
 
   pub are_within : (v : Visit) → Within v (visits w v)
   are_within = by_visits Within (λ v h.
-      each_append (λ u. IsWithin v.path u.path) (all_visits w (inside w v)) (v ∷ [])
-      (each_flat (λ u. IsWithin v.path u.path) (visits w) (inside w v)
-      (each_both (λ u. IsWithin v.path u.path) (Whole Within) (λ u. AllByRecursion (λ x. IsWithin v.path x.path) (visits w u))
-      (λ u a b. each_weaker (λ x. IsWithin u.path x.path) (λ x. IsWithin v.path x.path) (λ x c. within_further v.path u.path x.path a c) (visits w u) b) (inside w v) (inside_within v) h))
+      each_append (Inner v) (all_visits w (inside w v)) (v ∷ [])
+      (each_flat (Inner v) (visits w) (inside w v)
+      (each_both (Inner v) (Whole Within) (λ u. AllByRecursion (Inner v) (visits w u))
+      (λ u a b. each_weaker (Inner u) (Inner v) (λ x c. within_further v.path u.path x.path a c) (visits w u) b) (inside w v) (inside_within v) h))
       (within_itself v.path, tt))
 
   -- all visits of one stand left of all visits of those behind it
-  crossed : (u : Visit) (us : List Visit) → AllByRecursion (λ x. IsLeftOf u.path x.path) us → AllByRecursion (λ y. AllByRecursion (λ x. IsLeftOf y.path x.path) (all_visits w us)) (visits w u)
+  crossed : (u : Visit) (us : List Visit) → AllByRecursion (Left u) us → AllByRecursion (λ y. AllByRecursion (Left y) (all_visits w us)) (visits w u)
   crossed u us h =
-      each_weaker (λ y. IsWithin u.path y.path) (λ y. AllByRecursion (λ x. IsLeftOf y.path x.path) (all_visits w us))
-      (λ y a. each_flat (λ x. IsLeftOf y.path x.path) (visits w) us
-      (each_weaker (λ x. IsLeftOf u.path x.path) (λ z. AllByRecursion (λ x. IsLeftOf y.path x.path) (visits w z))
-      (λ z l. each_weaker (λ x. IsWithin z.path x.path) (λ x. IsLeftOf y.path x.path) (λ x b. left_within u.path z.path y.path x.path l a b) (visits w z) (are_within z)) us h))
+      each_weaker (Inner u) (λ y. AllByRecursion (Left y) (all_visits w us))
+      (λ y a. each_flat (Left y) (visits w) us
+      (each_weaker (Left u) (λ z. AllByRecursion (Left y) (visits w z))
+      (λ z l. each_weaker (Inner z) (Left y) (λ x b. left_within u.path z.path y.path x.path l a b) (visits w z) (are_within z)) us h))
       (visits w u) (are_within u)
 
   -- the order
 
-  abbrev Rises : Visit → List Visit → Type 0
+  abbrev pub Rises : Visit → List Visit → Type 0
   Rises v vs = AreRising vs
 
-  rising_append : (us vs : List Visit) → AreRising us → AreRising vs → AllByRecursion (λ u. AllByRecursion (λ x. EndsBefore u.path x.path) vs) us → AreRising (us ++ vs)
+  rising_append : (us vs : List Visit) → AreRising us → AreRising vs → AllByRecursion (λ u. AllByRecursion (Ends u) vs) us → AreRising (us ++ vs)
   rising_append [] vs h g all = g
-  rising_append (u ∷ us) vs h g all = (each_append (λ x. EndsBefore u.path x.path) us vs h.0 all.0, rising_append us vs h.1 g all.1)
+  rising_append (u ∷ us) vs h g all = (each_append (Ends u) us vs h.0 all.0, rising_append us vs h.1 g all.1)
 
   pub all_rise : (us : List Visit) → AreApart us → AllByRecursion (Whole Rises) us → AreRising (all_visits w us)
   all_rise [] a h = tt
   all_rise (u ∷ us) a h =
       rising_append (visits w u) (all_visits w us) h.0 (all_rise us a.1 h.1)
-      (each_weaker (λ y. AllByRecursion (λ x. IsLeftOf y.path x.path) (all_visits w us)) (λ y. AllByRecursion (λ x. EndsBefore y.path x.path) (all_visits w us))
-      (λ y l. each_weaker (λ x. IsLeftOf y.path x.path) (λ x. EndsBefore y.path x.path) (λ x. left_before y.path x.path) (all_visits w us) l) (visits w u) (crossed u us a.0))
+      (each_weaker (λ y. AllByRecursion (Left y) (all_visits w us)) (λ y. AllByRecursion (Ends y) (all_visits w us))
+      (λ y l. each_weaker (Left y) (Ends y) (λ x. left_before y.path x.path) (all_visits w us) l) (visits w u) (crossed u us a.0))
 
   -- all inside a visit ends before it, and is not what the visit is within
-  all_deeper : (v : Visit) → AllByRecursion (λ u. EndsBefore u.path v.path × (IsWithin u.path v.path → ⊥)) (all_visits w (inside w v))
+  all_deeper : (v : Visit) → AllByRecursion (Deeper v) (all_visits w (inside w v))
   all_deeper v =
       let h = laid w v in
-      let P = λ (u : Visit). EndsBefore u.path v.path × (IsWithin u.path v.path → ⊥) in
+      let P = Deeper v in
       each_flat P (visits w) (inside w v)
       (each_weaker (Begins v.path h.0 0 h.1.last) (λ u. AllByRecursion P (visits w u))
-      (λ u g. each_weaker (λ x. IsWithin u.path x.path) P (λ x a.
+      (λ u g. each_weaker (Inner u) P (λ x a.
       let path : x.path ≡ v.path ++ g.number ∷ (g.rest ++ a.0) = a.1 ∙ ap (λ p. p ++ a.0) g.path ∙ append_assoc v.path (g.number ∷ g.rest) a.0 in
       rw path (part_before v.path g.number (g.rest ++ a.0), whole_outside v.path g.number (g.rest ++ a.0))) (visits w u) (are_within u)) (inside w v) h.1.block.begin)
 
@@ -188,28 +206,28 @@ module _ (w : World) where
   they_rise = by_visits Rises (λ v h.
       let us = all_visits w (inside w v) in
       rising_append us (v ∷ []) (all_rise (inside w v) (laid w v).1.block.apart h) (tt, tt)
-      (each_weaker (λ u. EndsBefore u.path v.path × (IsWithin u.path v.path → ⊥)) (λ u. AllByRecursion (λ x. EndsBefore u.path x.path) (v ∷ [])) (λ u g. (g.0, tt)) us (all_deeper v)))
+      (each_weaker (Deeper v) (λ u. AllByRecursion (Ends u) (v ∷ [])) (λ u g. (g.0, tt)) us (all_deeper v)))
 
   -- a place's visits together
 
-  abbrev Together : Visit → List Visit → Type 0
+  abbrev pub Together : Visit → List Visit → Type 0
   Together v vs = AllByRecursion (StandsWhole w vs) vs
 
-  more_behind : (vs more : List Visit) (v : Visit) → AllByRecursion (λ u. IsWithin v.path u.path → ⊥) more → StandsWhole w vs v → StandsWhole w (vs ++ more) v
+  more_behind : (vs more : List Visit) (v : Visit) → AllByRecursion (Outside v) more → StandsWhole w vs v → StandsWhole w (vs ++ more) v
   more_behind vs more v none h = record {
     before = h.before;
     behind = h.behind ++ more;
     together = ap (λ us. us ++ more) h.together ∙ append_assoc h.before (visits w v ++ h.behind) more ∙ ap (λ us. h.before ++ us) (append_assoc (visits w v) h.behind more);
     none_before = h.none_before;
-    none_behind = each_append (λ u. IsWithin v.path u.path → ⊥) h.behind more h.none_behind none;
+    none_behind = each_append (Outside v) h.behind more h.none_behind none;
   }
 
-  more_before : (more vs : List Visit) (v : Visit) → AllByRecursion (λ u. IsWithin v.path u.path → ⊥) more → StandsWhole w vs v → StandsWhole w (more ++ vs) v
+  more_before : (more vs : List Visit) (v : Visit) → AllByRecursion (Outside v) more → StandsWhole w vs v → StandsWhole w (more ++ vs) v
   more_before more vs v none h = record {
     before = more ++ h.before;
     behind = h.behind;
     together = ap (λ us. more ++ us) h.together ∙ sym (append_assoc more h.before (visits w v ++ h.behind));
-    none_before = each_append (λ u. IsWithin v.path u.path → ⊥) more h.before none h.none_before;
+    none_before = each_append (Outside v) more h.before none h.none_before;
     none_behind = h.none_behind;
   }
 
@@ -220,24 +238,24 @@ module _ (w : World) where
       let rest = all_visits w us in
       let left = crossed u us a.0 in
       each_append (StandsWhole w (one ++ rest)) one rest
-      (each_both (λ y. AllByRecursion (λ x. IsLeftOf y.path x.path) rest) (StandsWhole w one) (StandsWhole w (one ++ rest))
-      (λ y l. more_behind one rest y (each_weaker (λ x. IsLeftOf y.path x.path) (λ x. IsWithin y.path x.path → ⊥) (λ x. apart y.path x.path) rest l)) one left h.0)
+      (each_both (λ y. AllByRecursion (Left y) rest) (StandsWhole w one) (StandsWhole w (one ++ rest))
+      (λ y l. more_behind one rest y (each_weaker (Left y) (Outside y) (λ x. apart y.path x.path) rest l)) one left h.0)
       (each_both (λ x. AllByRecursion (λ y. IsLeftOf y.path x.path) one) (StandsWhole w rest) (StandsWhole w (one ++ rest))
-      (λ x l. more_before one rest x (each_weaker (λ y. IsLeftOf y.path x.path) (λ y. IsWithin x.path y.path → ⊥) (λ y. apart_back y.path x.path) one l))
-      rest (each_flip (λ (y : Visit) (x : Visit). IsLeftOf y.path x.path) one rest left) (all_together us a.1 h.1))
+      (λ x l. more_before one rest x (each_weaker (λ y. IsLeftOf y.path x.path) (Outside x) (λ y. apart_back y.path x.path) one l))
+      rest (each_flip Left one rest left) (all_together us a.1 h.1))
 
   pub they_stand_together : (v : Visit) → Together v (visits w v)
   they_stand_together = by_visits Together (λ v h.
       let us = all_visits w (inside w v) in
       let whole : StandsWhole w (us ++ v ∷ []) v = record { before = []; behind = []; together = sym (append-nil (visits w v) ∙ opens v); none_before = tt; none_behind = tt } in
       each_append (StandsWhole w (us ++ v ∷ [])) us (v ∷ [])
-      (each_both (λ u. EndsBefore u.path v.path × (IsWithin u.path v.path → ⊥)) (StandsWhole w us) (StandsWhole w (us ++ v ∷ []))
+      (each_both (Deeper v) (StandsWhole w us) (StandsWhole w (us ++ v ∷ []))
       (λ u g. more_behind us (v ∷ []) u (g.1, tt)) us (all_deeper v) (all_together (inside w v) (laid w v).1.block.apart h))
       (whole, tt))
 
   -- what is used
 
-  abbrev Uses : Visit → List Visit → Type 0
+  abbrev pub Uses : Visit → List Visit → Type 0
   Uses v vs = AreReady v (outer_places v) → AllByRecursion (UsesEarlier w vs (outer_places v)) vs
 
   paths-append : (us vs : List Visit) → paths (us ++ vs) ≡ paths us ++ paths vs
@@ -268,7 +286,7 @@ module _ (w : World) where
       let ready = each_weaker K (IsReady u.path) r.0 (outer_places u) k.0 in
       let among = λ (p : List ℕ) (s : IsOneOf (paths one) p ⊎ IsOneOf (paths rest) p). subst (λ ps. IsOneOf ps p) (sym (paths-append one rest)) (one_append (paths one) (paths rest) p s) in
       let later = all_use more us a.1 k.1
-      (each_both (λ x. IsLeftOf u.path x.path) (λ x. (p : List ℕ) → K p → IsReady x.path p) (λ x. (p : List ℕ) → more p → IsReady x.path p)
+      (each_both (Left u) (λ x. (p : List ℕ) → K p → IsReady x.path p) (λ x. (p : List ℕ) → more p → IsReady x.path p)
       (λ x l g p s. elim s [ inl e ↦ subst (λ q. IsReady x.path q) e (left_ready u.path x.path l) | inr t ↦ g p t ]) us a.0 r.1) h.1 in
       each_append (UsesKnown (one ++ rest) K) one rest
       (each_weaker (UsesEarlier w one (outer_places u)) (UsesKnown (one ++ rest) K)
@@ -360,6 +378,6 @@ module _ (w : World) where
   all_distinct [] h = tt
   all_distinct (v ∷ vs) h = (λ c. never_itself v.path (All-contains (EndsBefore v.path) (paths vs) v.path (All-from_recursion (EndsBefore v.path) (paths vs) (of_paths vs h.0)) c), all_distinct vs h.1)
     where
-      of_paths : (us : List Visit) → AllByRecursion (λ u. EndsBefore v.path u.path) us → AllByRecursion (EndsBefore v.path) (paths us)
+      of_paths : (us : List Visit) → AllByRecursion (Ends v) us → AllByRecursion (EndsBefore v.path) (paths us)
       of_paths [] h = tt
       of_paths (u ∷ us) h = (h.0, of_paths us h.1)
