@@ -1,5 +1,6 @@
--- Worked examples, computed from the definitions: evaluations, the places that are evaluated, and what they use.
-use Rattle.std.proofs.Common.{◌≡◌, ℕ, suc, ℤ, pos, negsuc, List, [], ◌∷◌, Some, None, true, false, refl}
+-- Worked examples, computed from the definitions: evaluations, and what they visit.
+use Rattle.std.proofs.Common.{◌≡◌, ℕ, suc, ℤ, pos, negsuc, List, [], ◌∷◌, ◌++◌, map, Some, None, true, false, refl, ap, ◌∙◌}
+use Rattle.std.specs.List.{flat_map}
 use Rattle.fr_value.specs.declared.value.Value.TheVariants as value
 use Rattle.fr_value.specs.declared.now.Now.TheVariants.{Plain, Occ}
 use Rattle.fr_value.specs.declared.now.Bad.TheVariants as bad
@@ -7,7 +8,7 @@ use Rattle.fr_value.specs.declared.primitive.Primitive.{Primitive}
 use Rattle.fr_value.specs.declared.primitive.Primitive.TheVariants as prim
 use Rattle.fr_core.specs.declared.core_form.Core.{Core, out-Core}
 use Rattle.fr_core.specs.declared.core_form.Core.TheVariants as core
-use Rattle.fr_core.specs.declared.core_form.Core.TheVariants.{outs-Lit, outs-Var, outs-Source, outs-Let, outs-If, outs-Operator, outs-Handler, outs-Loop, outs-Feedback}
+use Rattle.fr_core.specs.declared.core_form.Core.TheVariants.{outs-Lit, outs-Var, outs-Source, outs-Let, outs-If, outs-Apply, outs-Operator, outs-Handler, outs-Loop, outs-Feedback}
 use Rattle.fr_core.specs.declared.core_form.Operator.TheVariants as operator
 use Rattle.fr_core.specs.declared.core_form.Handler.TheVariants as handler
 use Rattle.fr_core.specs.declared.core_form.Loop.TheVariants as loop
@@ -15,15 +16,15 @@ use Rattle.fr_core.specs.declared.kept.Key.TheVariants as key
 use Rattle.fr_core.specs.declared.kept.Kept.{Kept}
 use Rattle.fr_core.specs.declared.kept.Kept.TheVariants as kept
 use Rattle.fr_core.specs.declared.kept.Kept.TheVariants.{outs-Nothing, outs-Group, outs-Datum, outs-Switch}
-use Rattle.fr_meaning.specs.Words.{Env, plain}
+use Rattle.fr_meaning.specs.Words.{plain}
 use Rattle.fr_meaning.specs.Primitives.{applied}
 use Rattle.fr_meaning.specs.Cells.{child, datum_cell, behind_datum, under_key}
 use Rattle.fr_meaning.specs.Evaluation.{World, eval_to}
-use Rattle.fr_meaning.specs.Places.{costs, paths, layer_places, places_to}
-use Rattle.fr_meaning.specs.Order.{Binding, layer_uses, uses_to}
+use Rattle.fr_meaning.specs.Visits.{Visit, paths, inside_shape, visits_to, visits, own_cost, first_error, placed, uses}
 use Rattle.fr_meaning.proofs.Levels.{evaluates}
+use Rattle.fr_meaning.proofs.Visits.{first_is_found}
 
-ruleset outs = (outs-Lit, outs-Var, outs-Source, outs-Let, outs-If, outs-Operator, outs-Handler, outs-Loop, outs-Feedback, outs-Nothing, outs-Group, outs-Datum, outs-Switch)
+ruleset outs = (outs-Lit, outs-Var, outs-Source, outs-Let, outs-If, outs-Apply, outs-Operator, outs-Handler, outs-Loop, outs-Feedback, outs-Nothing, outs-Group, outs-Datum, outs-Switch)
 
 -- source 1 is an input of value 1, or an event
 abbrev with_input : World
@@ -109,27 +110,114 @@ doubling_costs : (n : ℕ) → (eval_to (suc (suc (suc n))) with_input (doubling
 unfolding applied child
 doubling_costs n = simp (evaluates, outs)
 
-evaluates_places : (n : ℕ) (w : World) (e : Core) (env : Env) (k : Kept) → places_to (suc n) w e env k ≡ layer_places w (eval_to n w) (places_to n w) env k (out-Core e)
-unfolding places_to
-evaluates_places n w e env k = refl
+-- visits, computed
 
-evaluates_uses : (n : ℕ) (w : World) (e : Core) (scope : List Binding) (k : Kept) (at : List ℕ) → uses_to (suc n) w e scope k at ≡ layer_uses w (eval_to n w) (uses_to n w) scope k at (out-Core e)
-unfolding uses_to
-evaluates_uses n w e scope k at = refl
+opens_by_shape : (n : ℕ) (w : World) (v : Visit) → visits_to (suc n) w v ≡ flat_map (visits_to n w) (inside_shape w n v (out-Core v.expr)) ++ v ∷ []
+unfolding visits_to
+opens_by_shape n w v = refl
+
+-- an expression with no variable in scope, at the top
+abbrev at_top : ℕ → Core → Kept → Visit
+at_top n e k = record { path = []; level = n; expr = e; scope = []; kept = k; price = 0; waits = [] }
+
+-- of a loop the parts are 0 and 1, and the turns stand in part 2
+doubling_paths : (n : ℕ) → paths (visits with_input (at_top (suc (suc (suc n))) (doubling 2) kept.Nothing))
+    ≡ (0 ∷ []) ∷ (1 ∷ []) ∷ (2 ∷ 0 ∷ 0 ∷ []) ∷ (2 ∷ 0 ∷ 1 ∷ []) ∷ (2 ∷ 0 ∷ []) ∷ (2 ∷ 1 ∷ 0 ∷ []) ∷ (2 ∷ 1 ∷ 1 ∷ []) ∷ (2 ∷ 1 ∷ []) ∷ [] ∷ []
+unfolding applied child
+doubling_paths n = simp (opens_by_shape, evaluates, outs)
 
 -- the loop costs 2, one for each turn, and nothing in it costs more
-places_cost : (n : ℕ) → costs (places_to (suc (suc (suc n))) with_input (doubling 2) [] kept.Nothing) ≡ 2 ∷ 0 ∷ 0 ∷ 0 ∷ 0 ∷ 0 ∷ 0 ∷ 0 ∷ 0 ∷ []
+doubling_own_costs : (n : ℕ) → map (own_cost with_input) (visits with_input (at_top (suc (suc (suc n))) (doubling 2) kept.Nothing)) ≡ 0 ∷ 0 ∷ 0 ∷ 0 ∷ 0 ∷ 0 ∷ 0 ∷ 0 ∷ 2 ∷ []
 unfolding applied child
-places_cost n = simp (evaluates_places, evaluates, outs)
+doubling_own_costs n = simp (opens_by_shape, evaluates, outs)
 
--- its parts are 0 and 1, and its turns stand in part 2
-doubling_places : (n : ℕ) → paths (places_to (suc (suc (suc n))) with_input (doubling 2) [] kept.Nothing)
-    ≡ [] ∷ (0 ∷ []) ∷ (1 ∷ []) ∷ (2 ∷ 0 ∷ []) ∷ (2 ∷ 0 ∷ 0 ∷ []) ∷ (2 ∷ 0 ∷ 1 ∷ []) ∷ (2 ∷ 1 ∷ []) ∷ (2 ∷ 1 ∷ 0 ∷ []) ∷ (2 ∷ 1 ∷ 1 ∷ []) ∷ []
-unfolding applied child
-doubling_places n = simp (evaluates_places, evaluates, outs)
+-- (let ((x 1)) x): the variable uses the first part, and the whole uses both
+abbrev one_bound : Core
+one_bound = core.Let (int (pos 1) ∷ []) (core.Var (record { 0 = 0 }))
 
--- in (let ((x 1)) x) the whole uses both parts, and the variable the first of them
-let_uses : (n : ℕ) → uses_to (suc (suc n)) with_input (core.Let (int (pos 1) ∷ []) (core.Var (record { 0 = 0 }))) [] kept.Nothing []
-    ≡ record { by = []; value_at = 0 ∷ [] } ∷ record { by = []; value_at = 1 ∷ [] } ∷ record { by = 1 ∷ []; value_at = 0 ∷ [] } ∷ []
+let_uses : (n : ℕ) → map (uses with_input) (visits with_input (at_top (suc (suc n)) one_bound kept.Nothing)) ≡ [] ∷ ((0 ∷ []) ∷ []) ∷ ((0 ∷ []) ∷ (1 ∷ []) ∷ []) ∷ []
 unfolding child
-let_uses n = simp (evaluates_uses, evaluates, outs)
+let_uses n = simp (opens_by_shape, evaluates, outs)
+
+-- (if #t 1 x): the second part is chosen, and waits for the test
+abbrev first_branch : Core
+first_branch = core.If (core.Lit (value.Bool true)) (int (pos 1)) source
+
+switch_paths : (n : ℕ) → paths (visits with_input (at_top (suc (suc n)) first_branch kept.Nothing)) ≡ (0 ∷ []) ∷ (1 ∷ []) ∷ [] ∷ []
+unfolding child under_key
+switch_paths n = simp (opens_by_shape, evaluates, outs)
+
+switch_uses : (n : ℕ) → map (uses with_input) (visits with_input (at_top (suc (suc n)) first_branch kept.Nothing)) ≡ [] ∷ ((0 ∷ []) ∷ []) ∷ ((0 ∷ []) ∷ (1 ∷ []) ∷ []) ∷ []
+unfolding child under_key
+switch_uses n = simp (opens_by_shape, evaluates, outs)
+
+-- (next x), where function 0 is (lambda (a) (+ a 1)): the body is part 1, and the call costs 1
+abbrev with_function : World
+with_function = record { functions = record { name = []; params = 1; body = prim_of prim.Add (core.Var (record { 0 = 0 }) ∷ int (pos 1) ∷ []) } ∷ []; sources = with_input.sources }
+
+abbrev call : Core
+call = core.Apply (record { 0 = 0 }) (source ∷ [])
+
+call_paths : (n : ℕ) → paths (visits with_function (at_top (suc (suc (suc n))) call kept.Nothing)) ≡ (0 ∷ []) ∷ (1 ∷ 0 ∷ []) ∷ (1 ∷ 1 ∷ []) ∷ (1 ∷ []) ∷ [] ∷ []
+unfolding applied child
+call_paths n = simp (opens_by_shape, evaluates, outs)
+
+call_own_costs : (n : ℕ) → map (own_cost with_function) (visits with_function (at_top (suc (suc (suc n))) call kept.Nothing)) ≡ 0 ∷ 0 ∷ 0 ∷ 0 ∷ 1 ∷ []
+unfolding applied child
+call_own_costs n = simp (opens_by_shape, evaluates, outs)
+
+-- (feedback (n 0) e) errs itself, since the event is no data to keep, and so does the whole evaluation
+abbrev fed_event : Core
+fed_event = core.Feedback (int (pos 0)) source
+
+feedback_paths : (n : ℕ) → paths (visits quiet_event (at_top (suc (suc n)) fed_event kept.Nothing)) ≡ (0 ∷ []) ∷ (1 ∷ []) ∷ [] ∷ []
+unfolding child datum_cell behind_datum
+feedback_paths n = simp (opens_by_shape, evaluates, outs)
+
+feedback_errs : (n : ℕ) → first_error quiet_event (visits quiet_event (at_top (suc (suc n)) fed_event kept.Nothing)) ≡ Some ([], bad.NotData)
+unfolding child datum_cell behind_datum
+feedback_errs n = simp (opens_by_shape, evaluates, outs)
+
+-- (+ e 1) errs at the whole, since an event is no integer, and in a loop's first turn the error stands there
+abbrev adding_event : Core
+adding_event = core.Loop loop.Repeat (int (pos 1) ∷ int (pos 2) ∷ []) (prim_of prim.Add (core.Var (record { 0 = 0 }) ∷ source ∷ []))
+
+turn_errs : (n : ℕ) → first_error quiet_event (visits quiet_event (at_top (suc (suc (suc n))) adding_event kept.Nothing)) ≡ Some (2 ∷ 0 ∷ [], bad.WrongType)
+unfolding applied child
+turn_errs n = simp (opens_by_shape, evaluates, outs)
+
+-- (repeat (a (feedback (n 0) (+ n 1))) 2 (* a 2))
+abbrev doubled_counter : Core
+doubled_counter = core.Loop loop.Repeat (counter ∷ int (pos 2) ∷ []) (prim_of prim.Mul (core.Var (record { 0 = 0 }) ∷ int (pos 2) ∷ []))
+
+-- (if #t (next (repeat (a (feedback (n 0) (+ n 1))) 2 (* a 2))) 0): a switch, a call, a loop of two turns and a `feedback`, one inside the other
+abbrev nested : Core
+nested = core.If (core.Lit (value.Bool true)) (core.Apply (record { 0 = 0 }) (doubled_counter ∷ [])) (int (pos 0))
+
+abbrev nested_visits : ℕ → List Visit
+nested_visits n = visits with_function (at_top (suc (suc (suc (suc (suc (suc n)))))) nested kept.Nothing)
+
+nested_paths : (n : ℕ) → paths (nested_visits n)
+    ≡ (0 ∷ [])
+    ∷ (1 ∷ 0 ∷ 0 ∷ 0 ∷ []) ∷ (1 ∷ 0 ∷ 0 ∷ 1 ∷ 0 ∷ []) ∷ (1 ∷ 0 ∷ 0 ∷ 1 ∷ 1 ∷ []) ∷ (1 ∷ 0 ∷ 0 ∷ 1 ∷ []) ∷ (1 ∷ 0 ∷ 0 ∷ [])
+    ∷ (1 ∷ 0 ∷ 1 ∷ [])
+    ∷ (1 ∷ 0 ∷ 2 ∷ 0 ∷ 0 ∷ []) ∷ (1 ∷ 0 ∷ 2 ∷ 0 ∷ 1 ∷ []) ∷ (1 ∷ 0 ∷ 2 ∷ 0 ∷ [])
+    ∷ (1 ∷ 0 ∷ 2 ∷ 1 ∷ 0 ∷ []) ∷ (1 ∷ 0 ∷ 2 ∷ 1 ∷ 1 ∷ []) ∷ (1 ∷ 0 ∷ 2 ∷ 1 ∷ [])
+    ∷ (1 ∷ 0 ∷ [])
+    ∷ (1 ∷ 1 ∷ 0 ∷ []) ∷ (1 ∷ 1 ∷ 1 ∷ []) ∷ (1 ∷ 1 ∷ []) ∷ (1 ∷ [])
+    ∷ []
+    ∷ []
+unfolding applied child datum_cell behind_datum under_key
+nested_paths n = simp (opens_by_shape, evaluates, outs)
+
+-- the loop costs 2 and the call 1
+nested_costs : (n : ℕ) → map (own_cost with_function) (nested_visits n) ≡ 0 ∷ 0 ∷ 0 ∷ 0 ∷ 0 ∷ 0 ∷ 0 ∷ 0 ∷ 0 ∷ 0 ∷ 0 ∷ 0 ∷ 0 ∷ 2 ∷ 0 ∷ 0 ∷ 0 ∷ 1 ∷ 0 ∷ []
+unfolding applied child datum_cell behind_datum under_key
+nested_costs n = simp (opens_by_shape, evaluates, outs)
+
+nested_first : (n : ℕ) → (eval_to (suc (suc (suc (suc (suc (suc n)))))) with_function nested [] kept.Nothing).first ≡ None
+unfolding applied child datum_cell behind_datum under_key
+nested_first n = simp (evaluates, outs)
+
+nested_errs_nowhere : (n : ℕ) → first_error with_function (nested_visits n) ≡ None
+nested_errs_nowhere n = first_is_found with_function (at_top (suc (suc (suc (suc (suc (suc n)))))) nested kept.Nothing) ∙ ap (placed []) (nested_first n)

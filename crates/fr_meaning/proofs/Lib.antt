@@ -3,9 +3,12 @@ mod Examples
 pub mod Named
 pub mod Begins
 pub mod Pure
-pub mod Blocks
-pub mod Costs
 pub mod Locality
 pub mod Prefixes
-pub mod Ordered
+pub mod Order
+pub mod Each
+pub mod Laid
+pub mod Told
 pub mod Decided
+pub mod Visits
+pub mod Bodies

@@ -12,7 +12,7 @@ use Rattle.fr_meaning.specs.Evaluation.{Ev, parts}
 use Rattle.fr_meaning.specs.Afresh.{Evaluated, items, join_item}
 use Rattle.fr_meaning.specs.Dependence.{parts_followed, bound, followed}
 
-first_of_three : (a b c : First) → option_or a (option_or b c) ≡ option_or (option_or a b) c
+pub first_of_three : (a b c : First) → option_or a (option_or b c) ≡ option_or (option_or a b) c
 first_of_three None b c = refl
 first_of_three (Some f) b c = refl
 

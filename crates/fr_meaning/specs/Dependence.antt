@@ -52,11 +52,20 @@ AgreeAt (n ∷ ns) xs others = (slice_get xs n ≡ slice_get others n) × AgreeA
 abbrev pub parts_followed : Parts → Parts → Parts
 parts_followed a b = record { values = a.values ++ b.values; kepts = a.kepts ++ b.kepts; cost = a.cost + b.cost; first = option_or a.first b.first }
 
+-- the expression of an item
+abbrev pub item_expr : Item → Core
+item_expr (item.Define e) = e
+item_expr (item.Show name e) = e
+
+-- what is in scope behind an item: a `define` binds its value
+abbrev pub with_bound : {X : Type 0} → Item → List X → X → List X
+with_bound (item.Define e) scope x = scope ++ x ∷ []
+with_bound (item.Show name e) scope x = scope
+
 -- the values that items bind
 abbrev pub bound : Ev → Env → Kept → ℕ → List Item → List Seen
 bound ev env k i [] = []
-bound ev env k i (item.Define e ∷ is) = let v = (ev e env (child k i)).value in v ∷ bound ev (env ++ v ∷ []) k (i + 1) is
-bound ev env k i (item.Show name e ∷ is) = bound ev env k (i + 1) is
+bound ev env k i (x ∷ xs) = let v = (ev (item_expr x) env (child k i)).value in with_bound x [] v ++ bound ev (with_bound x env v) k (i + 1) xs
 
 -- items that were evaluated, and then others
 abbrev pub followed : Evaluated → Evaluated → Evaluated

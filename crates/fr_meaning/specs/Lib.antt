@@ -6,6 +6,6 @@ pub mod Evaluation
 pub mod Texts
 pub mod Afresh
 pub mod Agreement
-pub mod Places
 pub mod Dependence
+pub mod Visits
 pub mod Order

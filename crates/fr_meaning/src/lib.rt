@@ -3,4 +3,7 @@
 
 mod laws;
 
-pub use laws::{cost_is_a_sum, evaluation_is_local, order_is_of_dependence, pure_is_steady};
+pub use laws::{
+    body_visits_are_in_order, ends_are_ordered, evaluation_is_local, pure_is_steady, visits_add_up,
+    visits_are_in_order,
+};
