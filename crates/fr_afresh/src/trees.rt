@@ -3,11 +3,11 @@ ghost use Rattle.std.specs.Prelude.{◌≡◌};
 ghost use Rattle.std.specs.Option.{option_copied};
 ghost use Rattle.fr_core.specs.declared.kept.Kept.{out-Kept};
 ghost use Rattle.fr_meaning.specs.Cells.{child, datum_cell, payload_cell, cell_in, behind_datum, behind_payload, behind, same_key, under_key};
-ghost use Rattle.fr_lines.specs.Lent.{earlier, kind_of};
+ghost use Rattle.fr_forms.specs.Lent.{earlier, kind_of};
 ghost use Rattle.fr_afresh.specs.Trees.{shape_of, tree};
 
 use fr_core::{Kept, Key};
-use fr_lines::{CellKind, LentCell};
+use fr_forms::{CellKind, LentCell};
 use fr_value::Value;
 
 /// A kept tree, opened by one level.
@@ -17,7 +17,7 @@ pub enum Opened<'a> {
     Group(&'a [Kept]),
     Datum(&'a Value, &'a Kept),
     Payload(&'a Option<Value>, &'a Kept),
-    Switch(Key, &'a Kept),
+    Switch(&'a Key, &'a Kept),
 }
 
 fn open_one(kept: &Kept) -> Opened<'_>
@@ -28,7 +28,7 @@ fn open_one(kept: &Kept) -> Opened<'_>
         Kept::Group(kepts) => Opened::Group(kepts.as_slice()),
         Kept::Datum(value, inner) => Opened::Datum(value, inner.get()),
         Kept::Payload(payload, inner) => Opened::Payload(payload, inner.get()),
-        Kept::Switch(key, inner) => Opened::Switch(*key, inner.get()),
+        Kept::Switch(key, inner) => Opened::Switch(key, inner.get()),
     }
 }
 
@@ -116,8 +116,8 @@ pub fn kept_behind(kind: CellKind, kept: Option<&Kept>) -> Option<&Kept>
 
 /// What the choice of a switch kept, where the switch chose by the same key before.
 #[tactic(auto, unfolding(fr_meaning::specs::Cells::under_key))]
-pub fn kept_under(kept: Option<&Kept>, key: Key) -> Option<&Kept>
-    ensures { tree result ≡ under_key key (tree kept.entry) }
+pub fn kept_under<'a>(kept: Option<&'a Kept>, key: &Key) -> Option<&'a Kept>
+    ensures { tree result ≡ under_key key.now (tree kept.entry) }
 {
     match open_tree(kept) {
         Opened::Switch(old, inner) => {
@@ -131,8 +131,8 @@ pub fn kept_under(kept: Option<&Kept>, key: Key) -> Option<&Kept>
     }
 }
 
-fn is_same_key(old: Key, new: Key) -> bool
-    ensures { result ≡ same_key old new }
+fn is_same_key(old: &Key, new: &Key) -> bool
+    ensures { result ≡ same_key old.now new.now }
 {
     match (old, new) {
         (Key::Test(held), Key::Test(holds)) => held == holds,
