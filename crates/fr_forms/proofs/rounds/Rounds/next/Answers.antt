@@ -1,4 +1,4 @@
-use Rattle.std.proofs.Common.{◌≡◌, ◌∷◌, ◌++◌, ◌+◌, ◌-◌, ◌<◌, ℕ, List, [], suc, refl, length, map, take, replicate, arith}
+use Rattle.std.proofs.Common.{◌≡◌, ◌∷◌, ◌+◌, ◌-◌, ◌<◌, ℕ, List, [], suc, refl, length, map, take, replicate, arith}
 use Rattle.fr_value.specs.Data.{datum_of, value_of-datum_of}
 use Rattle.fr_value.specs.declared.value.Datum.{Datum}
 use Rattle.fr_value.specs.declared.value.Value.{Value}
