@@ -15,7 +15,7 @@ use crate::joining::{
     no_parts, operator_done, part_behind, test_behind, too_deep, turned, turns_done, untested,
 };
 use crate::places::{Choice, bind_args, bind_turn, choice_by, cut};
-use crate::trees::{kept_behind, kept_cell, kept_part, kept_under};
+use crate::trees::{form_kept, kept_part, kept_under};
 use crate::world::World;
 use fr_core::{Core, Handler, Kept, Loop, Operator};
 use fr_forms::{
@@ -227,10 +227,9 @@ fn eval_operator(
     ensures value { IfOk result (λ d. d ≡ told (state_done (eval_to left world.now) env.old (tree kept.entry) (of_operator operator) exprs.now no_call)) }
     ensures env { OnOk result (env.new ≡ env.old) }
 {
-    let kind = operator_cell(operator);
-    let before = kept_behind(kind, kept);
-    let parts = eval_parts(world, left, env, exprs, before)?;
-    operator_done(world.alloc(), operator, kept_cell(kind, kept), parts)
+    let before = form_kept(operator_cell(operator), kept);
+    let parts = eval_parts(world, left, env, exprs, before.parts)?;
+    operator_done(world.alloc(), operator, before.cell, parts)
 }
 
 #[cycle(eval)]
@@ -246,10 +245,9 @@ fn eval_handler(
     ensures value { IfOk result (λ d. d ≡ told (state_done (eval_to left world.now) env.old (tree kept.entry) (of_handler handler) exprs.now (called (eval_to left world.now) env.old (length exprs.now) body.now))) }
     ensures env { OnOk result (env.new ≡ env.old) }
 {
-    let kind = handler_cell(handler);
-    let before = kept_behind(kind, kept);
-    let Parts { values, around } = eval_parts(world, left, env, exprs, before)?;
-    match begin_handler(handler, kept_cell(kind, kept), values.as_slice())? {
+    let before = form_kept(handler_cell(handler), kept);
+    let Parts { values, around } = eval_parts(world, left, env, exprs, before.parts)?;
+    match begin_handler(handler, before.cell, values.as_slice())? {
         Begun::Gives(line) => line_done(world.alloc(), around, line),
         Begun::Asks(args) => {
             let done = eval_called(world, left, env, body, args)?;
@@ -367,12 +365,11 @@ fn eval_feedback(
     ensures value { IfOk result (λ d. d ≡ told (fed_done (eval_to left world.now) env.old (tree kept.entry) (eval_to left world.now init.now env.old (child (behind_cell of_feedback (tree kept.entry)) 0)) body.now)) }
     ensures env { OnOk result (env.new ≡ env.old) }
 {
-    let before = kept_behind(CellKind::KeepsDatum, kept);
-    let cell = kept_cell(CellKind::KeepsDatum, kept);
-    let started = eval(world, left, env, init, kept_part(before, 0))?;
+    let before = form_kept(CellKind::KeepsDatum, kept);
+    let started = eval(world, left, env, init, kept_part(before.parts, 0))?;
     let outer = env.len();
-    env.push(fed_value(cell, &started.value)?)?;
-    let done = eval(world, left, env, body, kept_part(before, 1))?;
+    env.push(fed_value(before.cell, &started.value)?)?;
+    let done = eval(world, left, env, body, kept_part(before.parts, 1))?;
     cut(env, outer);
-    feedback_done(world.alloc(), cell, started, done)
+    feedback_done(world.alloc(), before.cell, started, done)
 }
