@@ -17,7 +17,8 @@ use Rattle.fr_afresh.specs.declared.running.AfreshStop.{AfreshStop}
 use Rattle.fr_afresh.specs.Bodies.{whole, unbegun, all_good}
 use Rattle.fr_afresh.specs.Stands.{Leaves, ErrsBy}
 use Rattle.fr_afresh.specs.Tells.{Tells, IsClean}
-use Rattle.fr_afresh.proofs.Good.{items_good, all_good_map}
+use Rattle.fr_meaning.proofs.Good.{items_good}
+use Rattle.fr_afresh.proofs.Good.{some_good, all_good_map}
 
 or_none : (f : First) → option_or f None ≡ f
 or_none None = refl
@@ -31,7 +32,7 @@ all_told ev k n p is h = record {
 }
 
 pub told_clean : (n : ℕ) (w : World) (k : Kept) (is : List Item) (p : Progress) → Tells p (items (eval_to n w) [] k 0 is) → IsClean p
-told_clean n w k is p t first none = items_good n w [] k 0 is (sym t.first ∙ first) (rw t.shown at none)
+told_clean n w k is p t first none = some_good _ (items_good n w [] k 0 is (sym t.first ∙ first)) (rw t.shown at none)
 
 pub stands_behind : (r : Result Afresh AfreshStop) (values : List Value) (done : Progress) (p : Program) (s : State) (i : Inputs) → values ≡ latest p.inputs s.values i.sets → Tells done (body p (sources_at p values i) s.kept)
     → IfOk r (λ a. (n : Instant) → n.values ≡ values → Tells done n.evaluated → Leaves a p n) → IfOk r (λ a. Leaves a p (instant p s i))

@@ -1,5 +1,6 @@
 pub mod Stands
-pub mod Here
+pub mod Choices
+pub mod Worlds
 pub mod Told
 pub mod Trees
 pub mod Bodies

@@ -18,4 +18,4 @@ shape_of opened.Nothing = Kept-F.Nothing
 shape_of (opened.Group ks) = Kept-F.Group ks.now
 shape_of (opened.Datum v k) = Kept-F.Datum v.now k.now
 shape_of (opened.Payload o k) = Kept-F.Payload o.now k.now
-shape_of (opened.Switch key k) = Kept-F.Switch key k.now
+shape_of (opened.Switch key k) = Kept-F.Switch key.now k.now

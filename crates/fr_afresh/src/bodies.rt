@@ -2,17 +2,18 @@
 ghost use Rattle.std.specs.Prelude.{◌≡◌, ◌≤◌, ◌+◌, ℕ, List, [], ◌∷◌, ◌++◌, IfOk};
 ghost use Rattle.fr_core.specs.declared.program.Item.{Item as BodyItem};
 ghost use Rattle.fr_core.specs.WellFormed.{AreNumbered};
+ghost use Rattle.fr_meaning.specs.Evaluation.{eval_to};
 ghost use Rattle.fr_meaning.specs.Afresh.{items as all_items, sources_at, body};
-ghost use Rattle.fr_afresh.specs.Here.{here};
 ghost use Rattle.fr_afresh.specs.Bodies.{item_expr, behind_item, whole, all_good};
 ghost use Rattle.fr_afresh.specs.Tells.{Tells, IsClean};
 
-use crate::evaluation::{At, eval};
+use crate::evaluation::eval;
 use crate::joining::{Around, Done, nothing_around, with_kept};
 use crate::sources::source_values;
 use crate::trees::kept_part;
+use crate::world::World;
 use fr_core::{Core, Inputs, Item, Kept, Program};
-use fr_lines::Seen;
+use fr_forms::Seen;
 use fr_value::{Now, Value};
 use sqlite_items::Items;
 use std::alloc::{AllocError, Global};
@@ -62,14 +63,13 @@ fn item_behind(
 
 /// Evaluates one item more.
 fn next_item(
-    alloc: Global,
-    at: &At<'_>,
+    world: &World<'_>,
     number: usize,
     so_far: Progress,
     item: &Item,
     kept: &Kept,
 ) -> Result<Progress, AllocError>
-    ensures { IfOk result (λ p. (is : List BodyItem) → whole (here at.now 2000) kept.now (number + 1) p is ≡ whole (here at.now 2000) kept.now number so_far (item.now ∷ is)) }
+    ensures { IfOk result (λ p. (is : List BodyItem) → whole (eval_to 2000 world.now) kept.now (number + 1) p is ≡ whole (eval_to 2000 world.now) kept.now number so_far (item.now ∷ is)) }
 {
     let Progress {
         mut env,
@@ -77,27 +77,22 @@ fn next_item(
         around,
     } = so_far;
     let before = kept_part(Some(kept), number);
-    let done = eval(alloc, at, LEVELS, &mut env, expr_of(item), before)?;
+    let done = eval(world, LEVELS, &mut env, expr_of(item), before)?;
     let next = item_behind(Progress { env, shown, around }, number, item, done)?;
     Ok(next)
 }
 
 /// Evaluates all items, over what they kept. It fails only where there is no memory.
-pub fn eval_items(
-    alloc: Global,
-    at: &At<'_>,
-    items: &[Item],
-    kept: &Kept,
-) -> Result<Progress, AllocError>
-    ensures { IfOk result (λ p. Tells p (all_items (here at.now 2000) [] kept.now 0 items.now)) }
+pub fn eval_items(world: &World<'_>, items: &[Item], kept: &Kept) -> Result<Progress, AllocError>
+    ensures { IfOk result (λ p. Tells p (all_items (eval_to 2000 world.now) [] kept.now 0 items.now)) }
 {
     let mut so_far = Progress {
-        env: Items::new(alloc),
-        shown: Items::new(alloc),
-        around: nothing_around(alloc),
+        env: Items::new(world.alloc()),
+        shown: Items::new(world.alloc()),
+        around: nothing_around(world.alloc()),
     };
     for i in 0..items.len() {
-        so_far = next_item(alloc, at, i, so_far, &items[i], kept)?;
+        so_far = next_item(world, i, so_far, &items[i], kept)?;
     }
     Ok(so_far)
 }
@@ -131,9 +126,6 @@ pub fn eval_body(
     ensures clean { IfOk result (λ p. IsClean p) }
 {
     let sources = source_values(alloc, program, values, inputs)?;
-    let at = At {
-        functions: program.functions.as_slice(),
-        sources: sources.as_slice(),
-    };
-    eval_items(alloc, &at, program.body.as_slice(), kept)
+    let world = World::of(alloc, program, sources.as_slice());
+    eval_items(&world, program.body.as_slice(), kept)
 }

@@ -1,73 +1,78 @@
 //! The evaluation of expressions: one function for each shape of form, and no more than the forms' own order.
 ghost use Rattle.std.specs.Prelude.{◌≡◌, ◌++◌, ◌∷◌, ◌+◌, List, None, IfOk, OnOk, length, slice_get};
-ghost use Rattle.fr_meaning.specs.Words.{Env};
+ghost use Rattle.fr_meaning.specs.Words.{Env, plain, part};
 ghost use Rattle.fr_meaning.specs.Cells.{child};
-ghost use Rattle.fr_meaning.specs.States.{no_call, of_operator, of_handler, of_feedback, handler_end};
-ghost use Rattle.fr_meaning.specs.Evaluation.{parts, let_done, choose, switch_done, call_done, body_for, body_with, handler as called, turns, loop_done, state_done, behind_cell, feedback_done as fed_done};
-ghost use Rattle.fr_lines.specs.Rounds.{bound, number_of, rounds_left};
-ghost use Rattle.fr_afresh.specs.Told.{told, told_parts, lined, turns_on};
+ghost use Rattle.fr_meaning.specs.States.{no_call, of_operator, of_handler, of_feedback};
+ghost use Rattle.fr_meaning.specs.Evaluation.{eval_to, leaf, source_seen, parts, let_done, choose, switch_done, call_done, body_for, body_with, handler as called, turns, loop_done, state_done, behind_cell, feedback_done as fed_done};
+ghost use Rattle.fr_forms.specs.Lent.{bound};
+ghost use Rattle.fr_forms.specs.Begins.{args_of};
+ghost use Rattle.fr_forms.specs.Rounds.{number_of, rounds_left};
+ghost use Rattle.fr_afresh.specs.Told.{told, told_parts, turns_on};
 ghost use Rattle.fr_afresh.specs.Trees.{tree};
-ghost use Rattle.fr_afresh.specs.Here.{here};
 
 use crate::joining::{
-    Around, Done, Parts, Turns, choice_done, ended, feedback_done, handled, last_done, leaf_of,
-    line_done, no_parts, operator_done, part_behind, test_behind, too_deep, turned, turns_done,
-    untested,
+    Done, Parts, Turns, choice_done, ended, feedback_done, handled, last_done, leaf_of, line_done,
+    no_parts, operator_done, part_behind, test_behind, too_deep, turned, turns_done, untested,
 };
-use crate::places::{behind, bind_turn, choice_by, cut, function_body, source_at};
-use crate::trees::{kept_behind, kept_cell, kept_part, kept_under};
-use fr_core::{Core, Function, Handler, Kept, Loop, Operator};
-use fr_lines::{
-    Begun, CellKind, Round, Rounds, Seen, begin_handler, fed_value, handler_cell, operator_cell,
-    rounds_of, share_part,
+use crate::places::{Choice, bind_args, bind_turn, choice_by, cut};
+use crate::trees::{form_kept, kept_part, kept_under};
+use crate::world::World;
+use fr_core::{Core, Handler, Kept, Loop, Operator};
+use fr_forms::{
+    Begun, CallArgs, CellKind, Round, Rounds, Seen, begin_handler, fed_value, handler_cell,
+    operator_cell, rounds_of, share_part,
 };
-use fr_value::{Bad, Now, Value};
+use fr_value::{Bad, FunId, Now, SrcId, Value, VarId};
 use sqlite_items::Items;
-use std::alloc::{AllocError, Global};
+use std::alloc::AllocError;
 
-/// What stays the same over an instant: the functions of the program, and the values of its sources.
-#[derive(Drop)]
-pub struct At<'a> {
-    pub functions: &'a [Function],
-    pub sources: &'a [Now],
+/// A literal. It fails only where there is no memory.
+fn eval_literal(world: &World<'_>, value: &Value) -> Result<Done, AllocError>
+    ensures { IfOk result (λ d. d ≡ told (leaf (plain value.now))) }
+{
+    Ok(leaf_of(world.alloc(), Ok(Now::Plain(value.share()?))))
+}
+
+/// A variable, over the values of those in scope. It fails only where there is no memory.
+fn eval_variable(world: &World<'_>, env: &[Seen], id: VarId) -> Result<Done, AllocError>
+    ensures { IfOk result (λ d. d ≡ told (leaf (part env.now id.0))) }
+{
+    Ok(leaf_of(world.alloc(), share_part(env, id.0 as usize)?))
+}
+
+/// A source. It fails only where there is no memory.
+fn eval_source(world: &World<'_>, id: SrcId) -> Result<Done, AllocError>
+    ensures { IfOk result (λ d. d ≡ told (leaf (source_seen (slice_get world.now.sources id.0)))) }
+{
+    Ok(leaf_of(world.alloc(), world.source(id)?))
 }
 
 /// Evaluates an expression that nests at most `left` levels deep, over the values of the variables in scope and what was
 /// kept. It fails only where there is no memory; otherwise the variables are as before.
 #[cycle(eval)]
 pub fn eval(
-    alloc: Global,
-    at: &At<'_>,
+    world: &World<'_>,
     left: u32,
     env: &mut Items<Seen>,
     expr: &Core,
     kept: Option<&Kept>,
 ) -> Result<Done, AllocError>
-    ensures value { IfOk result (λ d. d ≡ told (here at.now left expr.now env.old (tree kept.entry))) }
+    ensures value { IfOk result (λ d. d ≡ told (eval_to left world.now expr.now env.old (tree kept.entry))) }
     ensures env { OnOk result (env.new ≡ env.old) }
 {
     if left == 0 {
-        return Ok(too_deep(alloc));
+        return Ok(too_deep(world.alloc()));
     }
     let below = left - 1;
     match expr {
-        Core::Lit(value) => Ok(leaf_of(alloc, Ok(Now::Plain(value.share()?)))),
-        Core::Var(id) => Ok(leaf_of(alloc, share_part(env.as_slice(), id.0 as usize)?)),
-        Core::Source(id) => Ok(leaf_of(alloc, source_at(at.sources, id.0)?)),
-        Core::Let(exprs, body) => eval_let(
-            alloc,
-            at,
-            below,
-            env,
-            exprs.as_slice(),
-            body.get(),
-            kept,
-        ),
-        Core::If(test, a, b) => eval_if(alloc, at, below, env, test.get(), a.get(), b.get(), kept),
-        Core::Apply(id, args) => eval_call(alloc, at, below, env, id.0, args.as_slice(), kept),
+        Core::Lit(value) => eval_literal(world, value),
+        Core::Var(id) => eval_variable(world, env.as_slice(), *id),
+        Core::Source(id) => eval_source(world, *id),
+        Core::Let(exprs, body) => eval_let(world, below, env, exprs.as_slice(), body.get(), kept),
+        Core::If(test, a, b) => eval_if(world, below, env, test.get(), a.get(), b.get(), kept),
+        Core::Apply(id, args) => eval_call(world, below, env, *id, args.as_slice(), kept),
         Core::Operator(operator, exprs) => eval_operator(
-            alloc,
-            at,
+            world,
             below,
             env,
             *operator,
@@ -75,8 +80,7 @@ pub fn eval(
             kept,
         ),
         Core::Handler(handler, exprs, body) => eval_handler(
-            alloc,
-            at,
+            world,
             below,
             env,
             *handler,
@@ -85,8 +89,7 @@ pub fn eval(
             kept,
         ),
         Core::Loop(looped, exprs, body) => eval_loop(
-            alloc,
-            at,
+            world,
             below,
             env,
             *looped,
@@ -95,8 +98,7 @@ pub fn eval(
             kept,
         ),
         Core::Feedback(init, body) => eval_feedback(
-            alloc,
-            at,
+            world,
             below,
             env,
             init.get(),
@@ -109,19 +111,18 @@ pub fn eval(
 /// Evaluates parts from left to right.
 #[cycle(eval)]
 fn eval_parts(
-    alloc: Global,
-    at: &At<'_>,
+    world: &World<'_>,
     left: u32,
     env: &mut Items<Seen>,
     exprs: &[Core],
     kept: Option<&Kept>,
 ) -> Result<Parts, AllocError>
-    ensures value { IfOk result (λ p. p ≡ told_parts (parts (here at.now left) env.old (tree kept.entry) 0 exprs.now)) }
+    ensures value { IfOk result (λ p. p ≡ told_parts (parts (eval_to left world.now) env.old (tree kept.entry) 0 exprs.now)) }
     ensures env { OnOk result (env.new ≡ env.old) }
 {
-    let mut so_far = no_parts(alloc);
+    let mut so_far = no_parts(world.alloc());
     for i in 0..exprs.len() {
-        let part = eval(alloc, at, left, env, &exprs[i], kept_part(kept, i))?;
+        let part = eval(world, left, env, &exprs[i], kept_part(kept, i))?;
         so_far = part_behind(so_far, i, part)?;
     }
     Ok(so_far)
@@ -130,47 +131,44 @@ fn eval_parts(
 /// Evaluates a body with further values.
 #[cycle(eval)]
 fn eval_with(
-    alloc: Global,
-    at: &At<'_>,
+    world: &World<'_>,
     left: u32,
     env: &mut Items<Seen>,
     body: &Core,
     args: Items<Seen>,
     kept: Option<&Kept>,
 ) -> Result<Done, AllocError>
-    ensures value { IfOk result (λ d. d ≡ told (here at.now left body.now (env.old ++ args) (tree kept.entry))) }
+    ensures value { IfOk result (λ d. d ≡ told (eval_to left world.now body.now (env.old ++ args) (tree kept.entry))) }
     ensures env { OnOk result (env.new ≡ env.old) }
 {
     let outer = env.len();
     env.append(args)?;
-    let done = eval(alloc, at, left, env, body, kept)?;
+    let done = eval(world, left, env, body, kept)?;
     cut(env, outer);
     Ok(done)
 }
 
 #[cycle(eval)]
 fn eval_let(
-    alloc: Global,
-    at: &At<'_>,
+    world: &World<'_>,
     left: u32,
     env: &mut Items<Seen>,
     exprs: &[Core],
     body: &Core,
     kept: Option<&Kept>,
 ) -> Result<Done, AllocError>
-    ensures value { IfOk result (λ d. d ≡ told (let_done (here at.now left) env.old (tree kept.entry) (length exprs.now) (parts (here at.now left) env.old (tree kept.entry) 0 exprs.now) body.now)) }
+    ensures value { IfOk result (λ d. d ≡ told (let_done (eval_to left world.now) env.old (tree kept.entry) (length exprs.now) (parts (eval_to left world.now) env.old (tree kept.entry) 0 exprs.now) body.now)) }
     ensures env { OnOk result (env.new ≡ env.old) }
 {
-    let Parts { values, around } = eval_parts(alloc, at, left, env, exprs, kept)?;
+    let Parts { values, around } = eval_parts(world, left, env, exprs, kept)?;
     let number = exprs.len();
-    let last = eval_with(alloc, at, left, env, body, values, kept_part(kept, number))?;
-    last_done(alloc, around, number, last)
+    let last = eval_with(world, left, env, body, values, kept_part(kept, number))?;
+    last_done(world.alloc(), around, number, last)
 }
 
 #[cycle(eval)]
 fn eval_if(
-    alloc: Global,
-    at: &At<'_>,
+    world: &World<'_>,
     left: u32,
     env: &mut Items<Seen>,
     test: &Core,
@@ -178,69 +176,65 @@ fn eval_if(
     b: &Core,
     kept: Option<&Kept>,
 ) -> Result<Done, AllocError>
-    ensures value { IfOk result (λ d. d ≡ told (let t = here at.now left test.now env.old (child (tree kept.entry) 0) in switch_done (here at.now left) env.old (tree kept.entry) t (choose a.now b.now t.value))) }
+    ensures value { IfOk result (λ d. d ≡ told (let t = eval_to left world.now test.now env.old (child (tree kept.entry) 0) in switch_done (eval_to left world.now) env.old (tree kept.entry) t (choose a.now b.now t.value))) }
     ensures env { OnOk result (env.new ≡ env.old) }
 {
-    let tested = eval(alloc, at, left, env, test, kept_part(kept, 0))?;
+    let tested = eval(world, left, env, test, kept_part(kept, 0))?;
     let choice = choice_by(a, b, &tested.value);
-    let around = test_behind(alloc, tested)?;
+    let around = test_behind(world.alloc(), tested)?;
     match choice {
-        Err(bad) => untested(alloc, around, bad),
-        Ok(choice) => {
-            let before = kept_under(kept_part(kept, 1), choice.key);
-            let done = eval(alloc, at, left, env, choice.expr, before)?;
-            choice_done(alloc, around, choice.key, choice.number, done)
+        Err(bad) => untested(world.alloc(), around, bad),
+        Ok(Choice { key, number, expr }) => {
+            let before = kept_under(kept_part(kept, 1), &key);
+            let done = eval(world, left, env, expr, before)?;
+            choice_done(world.alloc(), around, key, number, done)
         }
     }
 }
 
 #[cycle(eval)]
 fn eval_call(
-    alloc: Global,
-    at: &At<'_>,
+    world: &World<'_>,
     left: u32,
     env: &mut Items<Seen>,
-    function: u32,
+    function: FunId,
     args: &[Core],
     kept: Option<&Kept>,
 ) -> Result<Done, AllocError>
-    ensures value { IfOk result (λ d. d ≡ told (call_done (here at.now left) (tree kept.entry) (length args.now) (parts (here at.now left) env.old (tree kept.entry) 0 args.now) (body_for (slice_get at.now.functions.now function) (length args.now)))) }
+    ensures value { IfOk result (λ d. d ≡ told (call_done (eval_to left world.now) (tree kept.entry) (length args.now) (parts (eval_to left world.now) env.old (tree kept.entry) 0 args.now) (body_for (slice_get world.now.functions function.0) (length args.now)))) }
     ensures env { OnOk result (env.new ≡ env.old) }
 {
-    let Parts { mut values, around } = eval_parts(alloc, at, left, env, args, kept)?;
+    let Parts { mut values, around } = eval_parts(world, left, env, args, kept)?;
     let number = args.len();
-    match function_body(at.functions, function, number) {
-        None => Ok(ended(alloc, Err(Bad::Arity), around)),
+    match world.body(function, number) {
+        None => Ok(ended(world.alloc(), Err(Bad::Arity), around)),
         Some(body) => {
-            let last = eval(alloc, at, left, &mut values, body, kept_part(kept, number))?;
-            last_done(alloc, around, number, last)
+            let last = eval(world, left, &mut values, body, kept_part(kept, number))?;
+            last_done(world.alloc(), around, number, last)
         }
     }
 }
 
 #[cycle(eval)]
 fn eval_operator(
-    alloc: Global,
-    at: &At<'_>,
+    world: &World<'_>,
     left: u32,
     env: &mut Items<Seen>,
     operator: Operator,
     exprs: &[Core],
     kept: Option<&Kept>,
 ) -> Result<Done, AllocError>
-    ensures value { IfOk result (λ d. d ≡ told (state_done (here at.now left) env.old (tree kept.entry) (of_operator operator) exprs.now no_call)) }
+    ensures value { IfOk result (λ d. d ≡ told (state_done (eval_to left world.now) env.old (tree kept.entry) (of_operator operator) exprs.now no_call)) }
     ensures env { OnOk result (env.new ≡ env.old) }
 {
-    let kind = operator_cell(operator);
-    let before = kept_behind(kind, kept);
-    let parts = eval_parts(alloc, at, left, env, exprs, before)?;
-    operator_done(alloc, operator, kept_cell(kind, kept), parts)
+    let before = form_kept(operator_cell(operator), kept);
+    let parts = eval_parts(world, left, env, exprs, before.parts)?;
+    operator_done(world.alloc(), operator, before.cell, parts)
 }
 
 #[cycle(eval)]
 fn eval_handler(
-    alloc: Global,
-    at: &At<'_>,
+    world: &World<'_>,
     left: u32,
     env: &mut Items<Seen>,
     handler: Handler,
@@ -248,63 +242,42 @@ fn eval_handler(
     body: &Core,
     kept: Option<&Kept>,
 ) -> Result<Done, AllocError>
-    ensures value { IfOk result (λ d. d ≡ told (state_done (here at.now left) env.old (tree kept.entry) (of_handler handler) exprs.now (called (here at.now left) env.old (length exprs.now) body.now))) }
+    ensures value { IfOk result (λ d. d ≡ told (state_done (eval_to left world.now) env.old (tree kept.entry) (of_handler handler) exprs.now (called (eval_to left world.now) env.old (length exprs.now) body.now))) }
     ensures env { OnOk result (env.new ≡ env.old) }
 {
-    let kind = handler_cell(handler);
-    let before = kept_behind(kind, kept);
-    let Parts { values, around } = eval_parts(alloc, at, left, env, exprs, before)?;
-    match begin_handler(alloc, handler, kept_cell(kind, kept), values.as_slice())? {
-        Begun::Gives(line) => line_done(alloc, around, line),
-        Begun::Asks(args) => eval_asked(
-            alloc,
-            at,
-            left,
-            env,
-            handler,
-            exprs.len(),
-            body,
-            around,
-            args,
-        ),
+    let before = form_kept(handler_cell(handler), kept);
+    let Parts { values, around } = eval_parts(world, left, env, exprs, before.parts)?;
+    match begin_handler(handler, before.cell, values.as_slice())? {
+        Begun::Gives(line) => line_done(world.alloc(), around, line),
+        Begun::Asks(args) => {
+            let done = eval_called(world, left, env, body, args)?;
+            handled(world.alloc(), handler, around, exprs.len(), args, done)
+        }
     }
 }
 
-/// A form whose handler's call is asked for with these arguments. The handler's body is the part of this number.
+/// A handler's body, called with these arguments.
 #[cycle(eval)]
-fn eval_asked(
-    alloc: Global,
-    at: &At<'_>,
+fn eval_called(
+    world: &World<'_>,
     left: u32,
     env: &mut Items<Seen>,
-    handler: Handler,
-    number: usize,
     body: &Core,
-    around: Around,
-    args: Items<Seen>,
+    args: CallArgs<'_>,
 ) -> Result<Done, AllocError>
-    ensures value { IfOk result (λ d. d ≡ lined around (handler_end handler args (called (here at.now left) env.old number body.now args))) }
+    ensures value { IfOk result (λ d. d ≡ told (body_with (eval_to left world.now) env.old body.now (args_of args.entry))) }
     ensures env { OnOk result (env.new ≡ env.old) }
 {
     let outer = env.len();
-    env.append(args)?;
-    let done = eval(alloc, at, left, env, body, None)?;
-    let ended = handled(
-        alloc,
-        handler,
-        around,
-        number,
-        behind(env.as_slice(), outer),
-        done,
-    )?;
+    bind_args(env, args)?;
+    let done = eval(world, left, env, body, None)?;
     cut(env, outer);
-    Ok(ended)
+    Ok(done)
 }
 
 #[cycle(eval)]
 fn eval_loop(
-    alloc: Global,
-    at: &At<'_>,
+    world: &World<'_>,
     left: u32,
     env: &mut Items<Seen>,
     looped: Loop,
@@ -312,16 +285,16 @@ fn eval_loop(
     body: &Core,
     kept: Option<&Kept>,
 ) -> Result<Done, AllocError>
-    ensures value { IfOk result (λ d. d ≡ told (loop_done (here at.now left) env.old looped (length exprs.now) (parts (here at.now left) env.old (tree kept.entry) 0 exprs.now) body.now)) }
+    ensures value { IfOk result (λ d. d ≡ told (loop_done (eval_to left world.now) env.old looped (length exprs.now) (parts (eval_to left world.now) env.old (tree kept.entry) 0 exprs.now) body.now)) }
     ensures env { OnOk result (env.new ≡ env.old) }
 {
-    let Parts { values, around } = eval_parts(alloc, at, left, env, exprs, kept)?;
+    let Parts { values, around } = eval_parts(world, left, env, exprs, kept)?;
     match rounds_of(looped, values.as_slice()) {
-        Err(bad) => Ok(ended(alloc, Err(bad), around)),
+        Err(bad) => Ok(ended(world.alloc(), Err(bad), around)),
         Ok(rounds) => {
             let init = share_part(values.as_slice(), 0)?;
-            let turns = eval_turns(alloc, at, left, env, body, init, rounds)?;
-            turns_done(alloc, around, exprs.len(), turns)
+            let turns = eval_turns(world, left, env, body, init, rounds)?;
+            turns_done(world.alloc(), around, exprs.len(), turns)
         }
     }
 }
@@ -329,15 +302,14 @@ fn eval_loop(
 /// A turn for each round that is left.
 #[cycle(eval)]
 fn eval_turns(
-    alloc: Global,
-    at: &At<'_>,
+    world: &World<'_>,
     left: u32,
     env: &mut Items<Seen>,
     body: &Core,
     init: Seen,
     rounds: Rounds<'_>,
 ) -> Result<Turns, AllocError>
-    ensures value { IfOk result (λ t. t ≡ turns_on (record { value = init; first = None }) (turns (body_with (here at.now left) env.old body.now) (number_of rounds.entry) init (rounds_left rounds.entry))) }
+    ensures value { IfOk result (λ t. t ≡ turns_on (record { value = init; first = None }) (turns (body_with (eval_to left world.now) env.old body.now) (number_of rounds.entry) init (rounds_left rounds.entry))) }
     ensures env { OnOk result (env.new ≡ env.old) }
 {
     let mut so_far = Turns {
@@ -353,7 +325,7 @@ fn eval_turns(
         },
     ) = rest.next()
     {
-        so_far = eval_turn(alloc, at, left, env, body, number, so_far, item)?;
+        so_far = eval_turn(world, left, env, body, number, so_far, item)?;
         rest = behind;
     }
     Ok(so_far)
@@ -362,8 +334,7 @@ fn eval_turns(
 /// One turn more, which has this number.
 #[cycle(eval)]
 fn eval_turn(
-    alloc: Global,
-    at: &At<'_>,
+    world: &World<'_>,
     left: u32,
     env: &mut Items<Seen>,
     body: &Core,
@@ -371,37 +342,34 @@ fn eval_turn(
     so_far: Turns,
     item: Option<&Value>,
 ) -> Result<Turns, AllocError>
-    ensures value { IfOk result (λ t. (rest : List Env) → turns_on t (turns (body_with (here at.now left) env.old body.now) (number + 1) t.value rest) ≡ turns_on so_far (turns (body_with (here at.now left) env.old body.now) number so_far.value (bound item.entry ∷ rest))) }
+    ensures value { IfOk result (λ t. (rest : List Env) → turns_on t (turns (body_with (eval_to left world.now) env.old body.now) (number + 1) t.value rest) ≡ turns_on so_far (turns (body_with (eval_to left world.now) env.old body.now) number so_far.value (bound item.entry ∷ rest))) }
     ensures env { OnOk result (env.new ≡ env.old) }
 {
     let Turns { value, first } = so_far;
     let outer = env.len();
     bind_turn(env, value, item)?;
-    let turn = eval(alloc, at, left, env, body, None)?;
+    let turn = eval(world, left, env, body, None)?;
     cut(env, outer);
     turned(number, first, turn)
 }
 
 #[cycle(eval)]
 fn eval_feedback(
-    alloc: Global,
-    at: &At<'_>,
+    world: &World<'_>,
     left: u32,
     env: &mut Items<Seen>,
     init: &Core,
     body: &Core,
     kept: Option<&Kept>,
 ) -> Result<Done, AllocError>
-    ensures value { IfOk result (λ d. d ≡ told (fed_done (here at.now left) env.old (tree kept.entry) (here at.now left init.now env.old (child (behind_cell of_feedback (tree kept.entry)) 0)) body.now)) }
+    ensures value { IfOk result (λ d. d ≡ told (fed_done (eval_to left world.now) env.old (tree kept.entry) (eval_to left world.now init.now env.old (child (behind_cell of_feedback (tree kept.entry)) 0)) body.now)) }
     ensures env { OnOk result (env.new ≡ env.old) }
 {
-    let before = kept_behind(CellKind::KeepsDatum, kept);
-    let cell = kept_cell(CellKind::KeepsDatum, kept);
-    let started = eval(alloc, at, left, env, init, kept_part(before, 0))?;
-    let parts = part_behind(no_parts(alloc), 0, started)?;
+    let before = form_kept(CellKind::KeepsDatum, kept);
+    let started = eval(world, left, env, init, kept_part(before.parts, 0))?;
     let outer = env.len();
-    env.push(fed_value(cell, parts.values.as_slice())?)?;
-    let done = eval(alloc, at, left, env, body, kept_part(before, 1))?;
+    env.push(fed_value(before.cell, &started.value)?)?;
+    let done = eval(world, left, env, body, kept_part(before.parts, 1))?;
     cut(env, outer);
-    feedback_done(alloc, cell, parts, done)
+    feedback_done(world.alloc(), before.cell, started, done)
 }

@@ -5,11 +5,12 @@ ghost use Rattle.fr_meaning.specs.Words.{under, own};
 ghost use Rattle.fr_meaning.specs.States.{handler_end, state_now, of_operator, of_feedback, no_call};
 ghost use Rattle.fr_meaning.specs.Cells.{with_cell};
 ghost use Rattle.fr_meaning.specs.Evaluation.{leaf, deep, refusal_first};
-ghost use Rattle.fr_lines.specs.Lent.{earlier, next_of, line_of};
+ghost use Rattle.fr_forms.specs.Lent.{earlier, next_of, line_of};
+ghost use Rattle.fr_forms.specs.Begins.{args_of};
 ghost use Rattle.fr_afresh.specs.Told.{told, unbegun_around, with_part, joined, erred, ended_as, lined, called_as};
 
 use fr_core::{Handler, Kept, Key, Operator, Path};
-use fr_lines::{Cell, LentCell, Line, Seen, end_handler, feedback_line, operator_line};
+use fr_forms::{CallArgs, Cell, LentCell, Line, Seen, end_handler, feedback_line, operator_line};
 use fr_value::Bad;
 use sqlite_items::{Boxed, Items};
 use std::alloc::{AllocError, Global};
@@ -152,13 +153,21 @@ pub fn part_behind(parts: Parts, number: usize, part: Done) -> Result<Parts, All
     Ok(Parts { values, around })
 }
 
+/// The parts so far, and behind them what the part of this number leaves beside its value. It fails only where there is
+/// no memory.
+fn behind(around: Around, number: usize, part: Done) -> Result<Around, AllocError>
+    ensures { IfOk result (λ a. a ≡ joined around number part.kept part.first) }
+{
+    let Done { value, kept, first } = part;
+    release(value);
+    with_kept(around, number, kept, first)
+}
+
 /// What a test leaves beside its value. It fails only where there is no memory.
 pub fn test_behind(alloc: Global, test: Done) -> Result<Around, AllocError>
     ensures { IfOk result (λ a. a ≡ joined unbegun_around 0 test.kept test.first) }
 {
-    let Done { value, kept, first } = test;
-    release(value);
-    with_kept(nothing_around(alloc), 0, kept, first)
+    behind(nothing_around(alloc), 0, test)
 }
 
 /// An evaluation that gives this value behind its parts, and keeps what they keep.
@@ -317,17 +326,25 @@ pub fn operator_done(
     line_done(alloc, around, line)
 }
 
-/// A `feedback` behind its first part and its body. It fails only where there is no memory.
+/// What INIT and BODY of a `feedback` leave beside their values. It fails only where there is no memory.
+fn both_behind(alloc: Global, init: Done, body: Done) -> Result<Around, AllocError>
+    ensures { IfOk result (λ a. a ≡ joined (joined unbegun_around 0 init.kept init.first) 1 body.kept body.first) }
+{
+    let around = behind(nothing_around(alloc), 0, init)?;
+    behind(around, 1, body)
+}
+
+/// A `feedback` behind INIT and BODY. It fails only where there is no memory.
 pub fn feedback_done(
     alloc: Global,
     cell: Option<LentCell<'_>>,
-    first: Parts,
+    init: Done,
     body: Done,
 ) -> Result<Done, AllocError>
-    ensures { IfOk result (λ d. let ps = with_part first 1 body in d ≡ lined ps.around (state_now of_feedback (earlier cell.entry) ps.values no_call)) }
+    ensures { IfOk result (λ d. d ≡ lined (joined (joined unbegun_around 0 init.kept init.first) 1 body.kept body.first) (state_now of_feedback (earlier cell.entry) (init.value ∷ body.value ∷ []) no_call)) }
 {
-    let Parts { values, around } = part_behind(first, 1, body)?;
-    let line = feedback_line(cell, values.as_slice())?;
+    let line = feedback_line(cell, &init.value, &body.value)?;
+    let around = both_behind(alloc, init, body)?;
     line_done(alloc, around, line)
 }
 
@@ -338,10 +355,10 @@ pub fn handled(
     handler: Handler,
     around: Around,
     number: usize,
-    args: &[Seen],
+    args: CallArgs<'_>,
     body: Done,
 ) -> Result<Done, AllocError>
-    ensures { IfOk result (λ d. d ≡ lined around (handler_end handler args.now (called_as number body))) }
+    ensures { IfOk result (λ d. d ≡ lined around (handler_end handler (args_of args.entry) (called_as number body))) }
 {
     let Done { value, kept, first } = body;
     forget(kept);

@@ -8,5 +8,6 @@ mod places;
 mod running;
 mod sources;
 mod trees;
+mod world;
 
 pub use running::{Afresh, AfreshStop, FirstBad};

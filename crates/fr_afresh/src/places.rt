@@ -1,19 +1,19 @@
-//! Sources, functions, choices and environments.
-ghost use Rattle.std.specs.Prelude.{◌≡◌, ◌≤◌, ◌∷◌, [], ◌++◌, IfOk, OnOk, length, slice_get, take, drop};
-ghost use Rattle.std.specs.Option.{option_copied};
+//! Choices and environments.
+ghost use Rattle.std.specs.Prelude.{◌≡◌, ◌≤◌, ◌∷◌, ◌++◌, OnOk, length, take};
 ghost use Rattle.fr_meaning.specs.Words.{on_ok};
-ghost use Rattle.fr_meaning.specs.Evaluation.{choose, source_seen, body_for};
-ghost use Rattle.fr_lines.specs.Rounds.{bound};
-ghost use Rattle.fr_afresh.specs.Here.{choice_of};
+ghost use Rattle.fr_meaning.specs.Evaluation.{choose};
+ghost use Rattle.fr_forms.specs.Lent.{bound};
+ghost use Rattle.fr_forms.specs.Begins.{args_of};
+ghost use Rattle.fr_afresh.specs.Choices.{choice_of};
 
-use fr_core::{Core, Function, Key};
-use fr_lines::{Seen, test_in};
+use fr_core::{Core, Key};
+use fr_forms::{CallArgs, Seen, test_in};
 use fr_value::{Bad, Now, Value};
 use sqlite_items::Items;
 use std::alloc::AllocError;
 
 /// What a switch goes on with: the key that it chose by, and the number and the expression of the part that it chose.
-#[derive(Clone, Copy)]
+#[derive(Drop)]
 pub struct Choice<'a> {
     pub key: Key,
     pub number: usize,
@@ -49,12 +49,22 @@ pub fn cut(env: &mut Items<Seen>, len: usize)
     }
 }
 
-/// The values behind the first `outer` ones.
-pub fn behind(env: &[Seen], outer: usize) -> &[Seen]
-    requires { outer ≤ length env.now }
-    ensures { result.now ≡ drop outer env.now }
+/// Puts a value behind the variables in scope, where there is one. It fails only where there is no memory.
+fn bind(env: &mut Items<Seen>, value: Option<&Value>) -> Result<(), AllocError>
+    ensures { OnOk result (env.new ≡ env.old ++ bound value.entry) }
 {
-    &env[outer..]
+    match value {
+        None => Ok(()),
+        Some(value) => env.push(Ok(Now::Plain(value.share()?))),
+    }
+}
+
+/// Puts the arguments of a handler's call behind the variables in scope. It fails only where there is no memory.
+pub fn bind_args(env: &mut Items<Seen>, args: CallArgs<'_>) -> Result<(), AllocError>
+    ensures { OnOk result (env.new ≡ env.old ++ args_of args.entry) }
+{
+    env.push(Ok(Now::Plain(args.payload.share()?)))?;
+    bind(env, args.state)
 }
 
 /// Puts the accumulator of a loop behind the variables in scope, and the item, where the turn goes over one. It fails
@@ -63,34 +73,5 @@ pub fn bind_turn(env: &mut Items<Seen>, acc: Seen, item: Option<&Value>) -> Resu
     ensures { OnOk result (env.new ≡ env.old ++ acc ∷ bound item.entry) }
 {
     env.push(acc)?;
-    match item {
-        None => Ok(()),
-        Some(item) => env.push(Ok(Now::Plain(item.share()?))),
-    }
-}
-
-/// The value of a source. It fails only where there is no memory.
-pub fn source_at(sources: &[Now], at: u32) -> Result<Seen, AllocError>
-    ensures { IfOk result (λ v. v ≡ source_seen (slice_get sources.now at)) }
-{
-    match sources.get(at as usize) {
-        Some(now) => Ok(Ok(now.share()?)),
-        None => Ok(Err(Bad::Deep)),
-    }
-}
-
-/// The body of a function that has so many parameters.
-pub fn function_body(functions: &[Function], at: u32, args: usize) -> Option<&Core>
-    ensures { option_copied result ≡ body_for (slice_get functions.now at) args }
-{
-    match functions.get(at as usize) {
-        None => None,
-        Some(function) => {
-            if function.params as usize == args {
-                Some(&function.body)
-            } else {
-                None
-            }
-        }
-    }
+    bind(env, item)
 }

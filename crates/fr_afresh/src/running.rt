@@ -8,7 +8,7 @@ use crate::bodies::{Progress, eval_body, good_values};
 use crate::joining::Around;
 use crate::sources::{first_values, latest_values};
 use fr_core::{Inputs, Kept, Path, Program};
-use fr_lines::Seen;
+use fr_forms::Seen;
 use fr_value::{Bad, Now, Value};
 use sqlite_items::Items;
 use std::alloc::{AllocError, Global};

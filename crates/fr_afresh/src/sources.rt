@@ -8,7 +8,7 @@ ghost use Rattle.fr_afresh.specs.Walks.{AreBehind, begins_with, left_from};
 ghost use Rattle.fr_value.specs.declared.value.Value.TheVariants as value;
 
 use fr_core::{Input, Inputs, Program, Sets};
-use fr_lines::share_option;
+use fr_forms::share_option;
 use fr_value::{Now, SrcId, Value};
 use sqlite_items::Items;
 use std::alloc::{AllocError, Global};

@@ -1,13 +1,12 @@
 //! What forms read from kept trees.
 ghost use Rattle.std.specs.Prelude.{◌≡◌};
-ghost use Rattle.std.specs.Option.{option_copied};
 ghost use Rattle.fr_core.specs.declared.kept.Kept.{out-Kept};
-ghost use Rattle.fr_meaning.specs.Cells.{child, datum_cell, payload_cell, cell_in, behind_datum, behind_payload, behind, same_key, under_key};
-ghost use Rattle.fr_lines.specs.Lent.{earlier, kind_of};
+ghost use Rattle.fr_meaning.specs.Cells.{child, keeps_datum, keeps_payload, cell_in, behind, same_key, under_key};
+ghost use Rattle.fr_forms.specs.Lent.{earlier, kind_of};
 ghost use Rattle.fr_afresh.specs.Trees.{shape_of, tree};
 
 use fr_core::{Kept, Key};
-use fr_lines::{CellKind, LentCell};
+use fr_forms::{CellKind, LentCell};
 use fr_value::Value;
 
 /// A kept tree, opened by one level.
@@ -17,7 +16,7 @@ pub enum Opened<'a> {
     Group(&'a [Kept]),
     Datum(&'a Value, &'a Kept),
     Payload(&'a Option<Value>, &'a Kept),
-    Switch(Key, &'a Kept),
+    Switch(&'a Key, &'a Kept),
 }
 
 fn open_one(kept: &Kept) -> Opened<'_>
@@ -28,7 +27,7 @@ fn open_one(kept: &Kept) -> Opened<'_>
         Kept::Group(kepts) => Opened::Group(kepts.as_slice()),
         Kept::Datum(value, inner) => Opened::Datum(value, inner.get()),
         Kept::Payload(payload, inner) => Opened::Payload(payload, inner.get()),
-        Kept::Switch(key, inner) => Opened::Switch(*key, inner.get()),
+        Kept::Switch(key, inner) => Opened::Switch(key, inner.get()),
     }
 }
 
@@ -52,72 +51,68 @@ pub fn kept_part(kept: Option<&Kept>, part: usize) -> Option<&Kept>
     }
 }
 
-#[tactic(auto, unfolding(fr_meaning::specs::Cells::datum_cell))]
-fn kept_datum(kept: Option<&Kept>) -> Option<&Value>
-    ensures { option_copied result ≡ datum_cell (tree kept.entry) }
+/// What a form reads from a kept tree.
+#[derive(Clone, Copy)]
+pub struct FormKept<'a> {
+    /// What its cell holds.
+    pub cell: Option<LentCell<'a>>,
+    /// What its parts kept.
+    pub parts: Option<&'a Kept>,
+}
+
+#[tactic(auto, unfolding(fr_meaning::specs::Cells::datum_cell, fr_meaning::specs::Cells::behind_datum))]
+fn datum_kept(kept: Option<&Kept>) -> FormKept<'_>
+    ensures cell { earlier result.cell ≡ cell_in keeps_datum (tree kept.entry) }
+    ensures parts { tree result.parts ≡ behind keeps_datum (tree kept.entry) }
 {
     match open_tree(kept) {
-        Opened::Datum(value, _) => Some(value),
-        _ => None,
+        Opened::Datum(value, inner) => FormKept {
+            cell: Some(LentCell::Datum(value)),
+            parts: Some(inner),
+        },
+        _ => FormKept {
+            cell: None,
+            parts: None,
+        },
     }
 }
 
-#[tactic(auto, unfolding(fr_meaning::specs::Cells::payload_cell))]
-fn kept_payload(kept: Option<&Kept>) -> Option<&Option<Value>>
-    ensures { option_copied result ≡ payload_cell (tree kept.entry) }
+#[tactic(auto, unfolding(fr_meaning::specs::Cells::payload_cell, fr_meaning::specs::Cells::behind_payload))]
+fn payload_kept(kept: Option<&Kept>) -> FormKept<'_>
+    ensures cell { earlier result.cell ≡ cell_in keeps_payload (tree kept.entry) }
+    ensures parts { tree result.parts ≡ behind keeps_payload (tree kept.entry) }
 {
     match open_tree(kept) {
-        Opened::Payload(payload, _) => Some(payload),
-        _ => None,
+        Opened::Payload(payload, inner) => FormKept {
+            cell: Some(LentCell::Payload(payload)),
+            parts: Some(inner),
+        },
+        _ => FormKept {
+            cell: None,
+            parts: None,
+        },
     }
 }
 
-/// What a form's cell of this kind holds.
-pub fn kept_cell(kind: CellKind, kept: Option<&Kept>) -> Option<LentCell<'_>>
-    ensures { earlier result ≡ cell_in (kind_of kind) (tree kept.entry) }
+/// What a form with a cell of this kind reads.
+pub fn form_kept(kind: CellKind, kept: Option<&Kept>) -> FormKept<'_>
+    ensures cell { earlier result.cell ≡ cell_in (kind_of kind) (tree kept.entry) }
+    ensures parts { tree result.parts ≡ behind (kind_of kind) (tree kept.entry) }
 {
     match kind {
-        CellKind::KeepsNone => None,
-        CellKind::KeepsDatum => kept_datum(kept).map(|value| LentCell::Datum(value)),
-        CellKind::KeepsPayload => kept_payload(kept).map(|payload| LentCell::Payload(payload)),
-    }
-}
-
-#[tactic(auto, unfolding(fr_meaning::specs::Cells::behind_datum))]
-fn kept_behind_datum(kept: Option<&Kept>) -> Option<&Kept>
-    ensures { tree result ≡ behind_datum (tree kept.entry) }
-{
-    match open_tree(kept) {
-        Opened::Datum(_, inner) => Some(inner),
-        _ => None,
-    }
-}
-
-#[tactic(auto, unfolding(fr_meaning::specs::Cells::behind_payload))]
-fn kept_behind_payload(kept: Option<&Kept>) -> Option<&Kept>
-    ensures { tree result ≡ behind_payload (tree kept.entry) }
-{
-    match open_tree(kept) {
-        Opened::Payload(_, inner) => Some(inner),
-        _ => None,
-    }
-}
-
-/// What the parts of a form with a cell of this kind kept.
-pub fn kept_behind(kind: CellKind, kept: Option<&Kept>) -> Option<&Kept>
-    ensures { tree result ≡ behind (kind_of kind) (tree kept.entry) }
-{
-    match kind {
-        CellKind::KeepsNone => kept,
-        CellKind::KeepsDatum => kept_behind_datum(kept),
-        CellKind::KeepsPayload => kept_behind_payload(kept),
+        CellKind::KeepsNone => FormKept {
+            cell: None,
+            parts: kept,
+        },
+        CellKind::KeepsDatum => datum_kept(kept),
+        CellKind::KeepsPayload => payload_kept(kept),
     }
 }
 
 /// What the choice of a switch kept, where the switch chose by the same key before.
 #[tactic(auto, unfolding(fr_meaning::specs::Cells::under_key))]
-pub fn kept_under(kept: Option<&Kept>, key: Key) -> Option<&Kept>
-    ensures { tree result ≡ under_key key (tree kept.entry) }
+pub fn kept_under<'a>(kept: Option<&'a Kept>, key: &Key) -> Option<&'a Kept>
+    ensures { tree result ≡ under_key key.now (tree kept.entry) }
 {
     match open_tree(kept) {
         Opened::Switch(old, inner) => {
@@ -131,8 +126,8 @@ pub fn kept_under(kept: Option<&Kept>, key: Key) -> Option<&Kept>
     }
 }
 
-fn is_same_key(old: Key, new: Key) -> bool
-    ensures { result ≡ same_key old new }
+fn is_same_key(old: &Key, new: &Key) -> bool
+    ensures { result ≡ same_key old.now new.now }
 {
     match (old, new) {
         (Key::Test(held), Key::Test(holds)) => held == holds,

@@ -1,3 +1,4 @@
+pub mod Good
 pub mod Levels
 mod Examples
 pub mod Named

@@ -5,10 +5,9 @@ use Rattle.fr_core.specs.declared.program.Item.{Item}
 use Rattle.fr_core.specs.declared.program.Item.TheVariants as item
 use Rattle.fr_meaning.specs.Words.{First}
 use Rattle.fr_meaning.specs.Cells.{child}
-use Rattle.fr_meaning.specs.Evaluation.{Ev}
+use Rattle.fr_meaning.specs.Evaluation.{Ev, eval_to}
 use Rattle.fr_afresh.specs.declared.bodies.Progress.{Progress}
 use Rattle.fr_afresh.specs.Bodies.{item_expr, behind_item, whole}
-use Rattle.fr_afresh.specs.Here.{here}
 use Rattle.fr_afresh.specs.Told.{told}
 use Rattle.fr_afresh.proofs.bodies.next_item.Goals as goal
 
@@ -23,4 +22,4 @@ item_next ev k n p (item.Show name e) is = simp (append_assoc, or_assoc)
 pub returns : goal.returns
 returns c = λ is.
     rw (c.in_ok-next.ensures, c.in_ok-done.ensures.env, c.in_ok-done.ensures.value, c.kept_part-before.ensures, c.expr_of.ensures)
-    (item_next (here c.args.at.now 2000) c.args.kept.now c.args.number c.args.so_far c.args.item.now is)
+    (item_next (eval_to 2000 c.args.world.now) c.args.kept.now c.args.number c.args.so_far c.args.item.now is)

@@ -13,17 +13,17 @@ use Rattle.fr_afresh.proofs.evaluation.+eval.Goals as goal
 pub eval-returns-then-left-eq0-clause-value : goal.eval-returns-then-left-eq0-clause-value
 eval-returns-then-left-eq0-clause-value t c = rw (at_zero _ _ _ _ _ c.if-left-eq0.true, c.too_deep.ensures) refl
 
-pub eval-returns-in_ok-share-in-Lit-clause-value : goal.eval-returns-in_ok-share-in-Lit-clause-value
-eval-returns-in_ok-share-in-Lit-clause-value t c =
-    rw (at_level c.args.left _ _ _ _ _ c.if-left-eq0.false (ap out-Core c.in-Lit.is ∙ outs-Lit _), c.leaf_of.ensures, c.in_ok-share-in-Lit.ensures) refl
+pub eval-returns-in-Lit-clause-value : goal.eval-returns-in-Lit-clause-value
+eval-returns-in-Lit-clause-value t c =
+    rw (at_level c.args.left _ _ _ _ _ c.if-left-eq0.false (ap out-Core c.in-Lit.is ∙ outs-Lit _)) c.eval_literal.ensures
 
-pub eval-returns-in_ok-share_part-in-Var-clause-value : goal.eval-returns-in_ok-share_part-in-Var-clause-value
-eval-returns-in_ok-share_part-in-Var-clause-value t c =
-    rw (at_level c.args.left _ _ _ _ _ c.if-left-eq0.false (ap out-Core c.in-Var.is ∙ outs-Var _), c.leaf_of-in-Var.ensures, c.in_ok-share_part-in-Var.ensures, c.as_slice.ensures) refl
+pub eval-returns-in-Var-clause-value : goal.eval-returns-in-Var-clause-value
+eval-returns-in-Var-clause-value t c =
+    rw (at_level c.args.left _ _ _ _ _ c.if-left-eq0.false (ap out-Core c.in-Var.is ∙ outs-Var _)) (rw c.as_slice.ensures at c.eval_variable.ensures)
 
-pub eval-returns-in_ok-source_at-in-Source-clause-value : goal.eval-returns-in_ok-source_at-in-Source-clause-value
-eval-returns-in_ok-source_at-in-Source-clause-value t c =
-    rw (at_level c.args.left _ _ _ _ _ c.if-left-eq0.false (ap out-Core c.in-Source.is ∙ outs-Source _), c.leaf_of-in-Source.ensures, c.in_ok-source_at-in-Source.ensures) refl
+pub eval-returns-in-Source-clause-value : goal.eval-returns-in-Source-clause-value
+eval-returns-in-Source-clause-value t c =
+    rw (at_level c.args.left _ _ _ _ _ c.if-left-eq0.false (ap out-Core c.in-Source.is ∙ outs-Source _)) c.eval_source.ensures
 
 pub eval-returns-in-Let-clause-value : goal.eval-returns-in-Let-clause-value
 eval-returns-in-Let-clause-value t c =

@@ -1,7 +1,6 @@
 use Rattle.std.proofs.Common.{◌≡◌, ◌+◌, ◌*◌, None, length, drop}
-use Rattle.fr_meaning.specs.Evaluation.{parts, body_with, turns}
-use Rattle.fr_lines.specs.Rounds.{number_of, rounds_left}
-use Rattle.fr_afresh.specs.Here.{here}
+use Rattle.fr_meaning.specs.Evaluation.{eval_to, parts, body_with, turns}
+use Rattle.fr_forms.specs.Rounds.{number_of, rounds_left}
 use Rattle.fr_afresh.specs.Told.{told_parts, parts_on, turns_on}
 use Rattle.fr_afresh.specs.Trees.{tree}
 use Rattle.fr_afresh.proofs.evaluation.+eval.Given as goal
@@ -30,8 +29,8 @@ decreases-eval_operator l = 4 * l.left + 3
 abbrev pub decreases-eval_handler : goal.decreases-eval_handler
 decreases-eval_handler l = 4 * l.left + 3
 
-abbrev pub decreases-eval_asked : goal.decreases-eval_asked
-decreases-eval_asked l = 4 * l.left + 1
+abbrev pub decreases-eval_called : goal.decreases-eval_called
+decreases-eval_called l = 4 * l.left + 1
 
 abbrev pub decreases-eval_loop : goal.decreases-eval_loop
 decreases-eval_loop l = 4 * l.left + 3
@@ -48,14 +47,14 @@ decreases-eval_feedback l = 4 * l.left + 3
 abbrev pub invariant-eval_parts-loop-i : goal.invariant-eval_parts-loop-i
 invariant-eval_parts-loop-i l = record {
   same_env : l.env ≡ l.fn.env;
-  so_far : parts_on l.so_far (parts (here l.at l.left) l.fn.env (tree l.kept) l.i (drop l.i l.exprs)) ≡ told_parts (parts (here l.at l.left) l.fn.env (tree l.kept) 0 l.exprs);
+  so_far : parts_on l.so_far (parts (eval_to l.left l.world) l.fn.env (tree l.kept) l.i (drop l.i l.exprs)) ≡ told_parts (parts (eval_to l.left l.world) l.fn.env (tree l.kept) 0 l.exprs);
 }
 
 abbrev pub invariant-eval_turns-loop-number : goal.invariant-eval_turns-loop-number
 invariant-eval_turns-loop-number l = record {
   same_env : l.env ≡ l.fn.env;
-  so_far : turns_on l.so_far (turns (body_with (here l.at l.left) l.fn.env l.body) (number_of l.rest) l.so_far.value (rounds_left l.rest))
-      ≡ turns_on (record { value = l.fn.init; first = None }) (turns (body_with (here l.at l.left) l.fn.env l.body) (number_of l.fn.rounds) l.fn.init (rounds_left l.fn.rounds));
+  so_far : turns_on l.so_far (turns (body_with (eval_to l.left l.world) l.fn.env l.body) (number_of l.rest) l.so_far.value (rounds_left l.rest))
+      ≡ turns_on (record { value = l.fn.init; first = None }) (turns (body_with (eval_to l.left l.world) l.fn.env l.body) (number_of l.fn.rounds) l.fn.init (rounds_left l.fn.rounds));
 }
 
 abbrev pub decreases-eval_turns-loop-number : goal.decreases-eval_turns-loop-number

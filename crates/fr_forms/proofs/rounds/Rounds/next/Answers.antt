@@ -1,10 +1,10 @@
-use Rattle.std.proofs.Common.{◌≡◌, ◌∷◌, ◌++◌, ◌+◌, ◌-◌, ◌<◌, ℕ, List, [], suc, refl, length, map, take, replicate, arith}
+use Rattle.std.proofs.Common.{◌≡◌, ◌∷◌, ◌+◌, ◌-◌, ◌<◌, ℕ, List, [], suc, refl, length, map, take, replicate, arith}
 use Rattle.fr_value.specs.Data.{datum_of, value_of-datum_of}
 use Rattle.fr_value.specs.declared.value.Datum.{Datum}
 use Rattle.fr_value.specs.declared.value.Value.{Value}
 use Rattle.fr_meaning.specs.Words.{Seen, plain}
-use Rattle.fr_lines.specs.Rounds.{ahead, on_item}
-use Rattle.fr_lines.proofs.rounds.Rounds.next.Goals as goal
+use Rattle.fr_forms.specs.Rounds.{ahead, on_item}
+use Rattle.fr_forms.proofs.rounds.Rounds.next.Goals as goal
 
 one_item : (ds : List Datum) (n : ℕ) (h rest : List Value) (v : Value) → n < length ds → ahead ds n h ≡ datum_of v ∷ ahead ds (n + 1) rest
     → map on_item (take (length ds - n) (ahead ds n h)) ≡ (plain v ∷ []) ∷ map on_item (take (length ds - (n + 1)) (ahead ds (n + 1) rest))

@@ -1,50 +1,44 @@
-ghost use Rattle.std.specs.Prelude.{◌≡◌, ◌∷◌, [], IfOk};
+ghost use Rattle.std.specs.Prelude.{◌≡◌, [], IfOk};
 ghost use Rattle.fr_core.specs.declared.core_form.Handler.TheVariants as handler;
-ghost use Rattle.fr_meaning.specs.Words.{plain};
 ghost use Rattle.fr_meaning.specs.States.{event_begin, collect_begin, handler_begin, handler_line, passed};
-ghost use Rattle.fr_lines.specs.Lent.{earlier, line_of};
-ghost use Rattle.fr_lines.specs.Begins.{begun_of, quiet};
+ghost use Rattle.fr_forms.specs.Lent.{earlier, line_of};
+ghost use Rattle.fr_forms.specs.Begins.{begun_of, args_of, quiet};
 
 use crate::lines::{Cell, LentCell, Line, bad_line, keeping_line, plain_line, staying_line};
 use crate::operators::base_at;
 use crate::seen::{Seen, event_at, plain_in, test_in};
 use fr_core::Handler;
 use fr_value::{Now, Value};
-use sqlite_items::Items;
-use std::alloc::{AllocError, Global};
+use std::alloc::AllocError;
+
+/// The arguments of a handler's call, borrowed from the parts and the cell of its form.
+#[derive(Clone, Copy)]
+pub struct CallArgs<'a> {
+    /// The event's payload.
+    pub payload: &'a Value,
+    /// The state, where the form has one.
+    pub state: Option<&'a Value>,
+}
 
 /// A form with a handler, begun.
 #[derive(Drop)]
-pub enum Begun {
+pub enum Begun<'a> {
     /// Its line, without a call.
     Gives(Line),
     /// The arguments of the handler's call.
-    Asks(Items<Seen>),
+    Asks(CallArgs<'a>),
 }
 
-fn one_value(alloc: Global, a: &Value) -> Result<Items<Seen>, AllocError>
-    ensures { IfOk result (λ args. args ≡ plain a.now ∷ []) }
-{
-    let mut args = Items::new(alloc);
-    args.push(Ok(Now::Plain(a.share()?)))?;
-    Ok(args)
-}
-
-fn two_values(alloc: Global, a: &Value, b: &Value) -> Result<Items<Seen>, AllocError>
-    ensures { IfOk result (λ args. args ≡ plain a.now ∷ plain b.now ∷ []) }
-{
-    let mut args = one_value(alloc, a)?;
-    args.push(Ok(Now::Plain(b.share()?)))?;
-    Ok(args)
-}
-
-fn begin_event(alloc: Global, parts: &[Seen]) -> Result<Begun, AllocError>
-    ensures { IfOk result (λ b. begun_of b ≡ event_begin parts.now) }
+fn begin_event(parts: &[Seen]) -> Begun<'_>
+    ensures { begun_of result ≡ event_begin parts.now }
 {
     match event_at(parts, 0) {
-        Err(bad) => Ok(Begun::Gives(bad_line(bad))),
-        Ok(None) => Ok(Begun::Gives(plain_line(Ok(Now::Occ(None)), None))),
-        Ok(Some(payload)) => Ok(Begun::Asks(one_value(alloc, payload)?)),
+        Err(bad) => Begun::Gives(bad_line(bad)),
+        Ok(None) => Begun::Gives(plain_line(Ok(Now::Occ(None)), None)),
+        Ok(Some(payload)) => Begun::Asks(CallArgs {
+            payload,
+            state: None,
+        }),
     }
 }
 
@@ -58,12 +52,11 @@ fn quiet_line(handler: Handler, base: &Value) -> Result<Line, AllocError>
     }
 }
 
-fn begin_collect(
-    alloc: Global,
+fn begin_collect<'a>(
     handler: Handler,
-    cell: Option<LentCell<'_>>,
-    parts: &[Seen],
-) -> Result<Begun, AllocError>
+    cell: Option<LentCell<'a>>,
+    parts: &'a [Seen],
+) -> Result<Begun<'a>, AllocError>
     ensures { IfOk result (λ b. begun_of b ≡ collect_begin (quiet handler) (earlier cell.entry) parts.now) }
 {
     match event_at(parts, 0) {
@@ -72,7 +65,10 @@ fn begin_collect(
             Err(bad) => Ok(Begun::Gives(bad_line(bad))),
             Ok(base) => match payload {
                 None => Ok(Begun::Gives(quiet_line(handler, base)?)),
-                Some(payload) => Ok(Begun::Asks(two_values(alloc, payload, base)?)),
+                Some(payload) => Ok(Begun::Asks(CallArgs {
+                    payload,
+                    state: Some(base),
+                })),
             },
         },
     }
@@ -80,40 +76,34 @@ fn begin_collect(
 
 /// Begins a form with a handler, over what its cell holds and the values of its parts: it gives its line, or asks for
 /// the handler's call. It fails only where there is no memory.
-pub fn begin_handler(
-    alloc: Global,
+pub fn begin_handler<'a>(
     handler: Handler,
-    cell: Option<LentCell<'_>>,
-    parts: &[Seen],
-) -> Result<Begun, AllocError>
+    cell: Option<LentCell<'a>>,
+    parts: &'a [Seen],
+) -> Result<Begun<'a>, AllocError>
     ensures { IfOk result (λ b. begun_of b ≡ handler_begin handler (earlier cell.entry) parts.now) }
 {
     match handler {
-        Handler::MapE => begin_event(alloc, parts),
-        Handler::FilterE => begin_event(alloc, parts),
-        Handler::CollectB => begin_collect(alloc, Handler::CollectB, cell, parts),
-        Handler::CollectE => begin_collect(alloc, Handler::CollectE, cell, parts),
+        Handler::MapE => Ok(begin_event(parts)),
+        Handler::FilterE => Ok(begin_event(parts)),
+        Handler::CollectB => begin_collect(Handler::CollectB, cell, parts),
+        Handler::CollectE => begin_collect(Handler::CollectE, cell, parts),
     }
 }
 
-/// The first argument, where the test holds. It fails only where there is no memory.
-fn passed_payload(args: &[Seen], holds: bool) -> Result<Option<Value>, AllocError>
-    ensures { IfOk result (λ o. o ≡ passed args.now holds) }
+/// The payload, where the test holds. It fails only where there is no memory.
+fn passed_payload(args: CallArgs<'_>, holds: bool) -> Result<Option<Value>, AllocError>
+    ensures { IfOk result (λ o. o ≡ passed (args_of args.entry) holds) }
 {
-    match args.get(0) {
-        Some(Ok(Now::Plain(payload))) => {
-            if holds {
-                Ok(Some(payload.share()?))
-            } else {
-                Ok(None)
-            }
-        }
-        _ => Ok(None),
+    if holds {
+        Ok(Some(args.payload.share()?))
+    } else {
+        Ok(None)
     }
 }
 
-fn end_filter(args: &[Seen], given: &Seen) -> Result<Line, AllocError>
-    ensures { IfOk result (λ l. line_of l ≡ handler_line handler.FilterE args.now given.now) }
+fn end_filter(args: CallArgs<'_>, given: &Seen) -> Result<Line, AllocError>
+    ensures { IfOk result (λ l. line_of l ≡ handler_line handler.FilterE (args_of args.entry) given.now) }
 {
     match test_in(given) {
         Err(bad) => Ok(bad_line(bad)),
@@ -153,8 +143,8 @@ fn end_collect_e(given: &Seen) -> Result<Line, AllocError>
 
 /// The line of a form with a handler, over the arguments of the handler's call and the value that it gave. It fails only
 /// where there is no memory.
-pub fn end_handler(handler: Handler, args: &[Seen], given: &Seen) -> Result<Line, AllocError>
-    ensures { IfOk result (λ l. line_of l ≡ handler_line handler args.now given.now) }
+pub fn end_handler(handler: Handler, args: CallArgs<'_>, given: &Seen) -> Result<Line, AllocError>
+    ensures { IfOk result (λ l. line_of l ≡ handler_line handler (args_of args.entry) given.now) }
 {
     match handler {
         Handler::MapE => end_map(given),

@@ -1,21 +1,27 @@
 -- What code has of cells and lines.
-use Rattle.std.specs.Prelude.{Option, Some, None}
+use Rattle.std.specs.Prelude.{List, [], ◌∷◌, Option, Some, None}
 use Rattle.std.specs.Option.{option_map}
 use denote.Ref.{Bor}
 use Rattle.fr_value.specs.declared.value.Value.{Value}
+use Rattle.fr_meaning.specs.Words.{Seen, plain}
 use Rattle.fr_meaning.specs.Cells.{Cell as FormCell, datum, payload, CellKind as FormCellKind, keeps_none, keeps_datum, keeps_payload}
 use Rattle.fr_meaning.specs.States.{Line as FormLine}
-use Rattle.fr_lines.specs.declared.lines.Cell.{Cell}
-use Rattle.fr_lines.specs.declared.lines.Cell.TheVariants as cell
-use Rattle.fr_lines.specs.declared.lines.LentCell.{LentCell}
-use Rattle.fr_lines.specs.declared.lines.LentCell.TheVariants as lent_cell
-use Rattle.fr_lines.specs.declared.lines.CellKind.{CellKind}
-use Rattle.fr_lines.specs.declared.lines.CellKind.TheVariants as kind
-use Rattle.fr_lines.specs.declared.lines.Line.{Line}
+use Rattle.fr_forms.specs.declared.lines.Cell.{Cell}
+use Rattle.fr_forms.specs.declared.lines.Cell.TheVariants as cell
+use Rattle.fr_forms.specs.declared.lines.LentCell.{LentCell}
+use Rattle.fr_forms.specs.declared.lines.LentCell.TheVariants as lent_cell
+use Rattle.fr_forms.specs.declared.lines.CellKind.{CellKind}
+use Rattle.fr_forms.specs.declared.lines.CellKind.TheVariants as kind
+use Rattle.fr_forms.specs.declared.lines.Line.{Line}
 
 -- a value that is borrowed
 abbrev pub lent : Bor Value → Value
 lent v = v.now
+
+-- the values of the variables that a value is bound to, where there is one
+abbrev pub bound : Option (Bor Value) → List Seen
+bound None = []
+bound (Some v) = plain v.now ∷ []
 
 -- a cell that the code holds
 abbrev pub cell_of : Cell → FormCell

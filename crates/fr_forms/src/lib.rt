@@ -11,8 +11,8 @@ mod rounds;
 mod seen;
 
 pub use applying::apply_primitive;
-pub use handlers::{Begun, begin_handler, end_handler};
+pub use handlers::{Begun, CallArgs, begin_handler, end_handler};
 pub use lines::{Cell, CellKind, LentCell, Line, handler_cell, operator_cell};
 pub use operators::{fed_value, feedback_line, operator_line};
 pub use rounds::{Round, Rounds, rounds_of};
-pub use seen::{Seen, share_option, share_part, test_in};
+pub use seen::{Seen, share_option, share_part, share_seen, test_in};

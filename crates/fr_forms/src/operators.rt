@@ -1,13 +1,13 @@
-ghost use Rattle.std.specs.Prelude.{◌≡◌, IfOk, None};
+ghost use Rattle.std.specs.Prelude.{◌≡◌, ◌∷◌, [], IfOk, None};
 ghost use Rattle.std.specs.Option.{option_copied, option_or};
 ghost use Rattle.fr_core.specs.declared.core_form.Operator.TheVariants as operator;
 ghost use Rattle.fr_meaning.specs.Words.{on_ok, part, datum_in, event_of};
 ghost use Rattle.fr_meaning.specs.States.{base_of, leftmost, change, is_spent, once_line as line_once, plain_or_bad, occurrence, fed, datum_next as next_datum, payload_next as next_payload, beside, refusal_in, refused_by, of_operator, of_feedback, no_call, state_now};
-ghost use Rattle.fr_lines.specs.Lent.{lent, earlier, cell_of, line_of};
+ghost use Rattle.fr_forms.specs.Lent.{lent, earlier, cell_of, line_of};
 
 use crate::applying::apply_primitive;
 use crate::lines::{Cell, LentCell, Line, bad_line, keeping_line, plain_line};
-use crate::seen::{Seen, event_at, event_in, plain_at, plain_in, share_option, share_part};
+use crate::seen::{Seen, event_at, event_in, plain_at, plain_in, share_option, share_seen};
 use fr_core::Operator;
 use fr_value::{Bad, Now, Value, same};
 use std::alloc::{AllocError, Global};
@@ -152,11 +152,11 @@ fn shared_or_bad(value: Result<&Value, Bad>) -> Result<Seen, AllocError>
     }
 }
 
-/// The cell next that keeps the plain value at an index, or why there is none. It fails only where there is no memory.
-fn datum_next(parts: &[Seen], at: usize) -> Result<Result<Cell, Bad>, AllocError>
-    ensures { IfOk result (λ c. on_ok cell_of c ≡ next_datum (datum_in (part parts.now at))) }
+/// The cell next that keeps a plain value, or why there is none. It fails only where there is no memory.
+fn datum_next(value: Result<&Value, Bad>) -> Result<Result<Cell, Bad>, AllocError>
+    ensures { IfOk result (λ c. on_ok cell_of c ≡ next_datum (on_ok lent value.entry)) }
 {
-    match plain_at(parts, at) {
+    match value {
         Err(bad) => Ok(Err(bad)),
         Ok(value) => Ok(Ok(Cell::Datum(value.share()?))),
     }
@@ -165,7 +165,7 @@ fn datum_next(parts: &[Seen], at: usize) -> Result<Result<Cell, Bad>, AllocError
 fn delay_line(cell: Option<LentCell<'_>>, parts: &[Seen]) -> Result<Line, AllocError>
     ensures { IfOk result (λ l. line_of l ≡ state_now (of_operator operator.Delay) (earlier cell.entry) parts.now no_call) }
 {
-    let next = datum_next(parts, 1)?;
+    let next = datum_next(plain_at(parts, 1))?;
     Ok(line_beside(shared_or_bad(base_at(cell, parts, 0))?, next))
 }
 
@@ -217,14 +217,14 @@ pub fn operator_line(
     }
 }
 
-/// What the name of a `feedback` is bound to: the datum in the cell, else the value of INIT, which is the first of these.
-/// It fails only where there is no memory.
-pub fn fed_value(cell: Option<LentCell<'_>>, parts: &[Seen]) -> Result<Seen, AllocError>
-    ensures { IfOk result (λ v. v ≡ fed (earlier cell.entry) (part parts.now 0)) }
+/// What the name of a `feedback` is bound to: the datum in the cell, else the value of INIT. It fails only where there is
+/// no memory.
+pub fn fed_value(cell: Option<LentCell<'_>>, init: &Seen) -> Result<Seen, AllocError>
+    ensures { IfOk result (λ v. v ≡ fed (earlier cell.entry) init.now) }
 {
     match cell {
         Some(LentCell::Datum(value)) => Ok(Ok(Now::Plain(value.share()?))),
-        _ => share_part(parts, 0),
+        _ => share_seen(init),
     }
 }
 
@@ -249,10 +249,14 @@ fn with_refusal(refusal: Option<Bad>, line: Line) -> Line
 
 /// The line of a `feedback`, over what its cell holds and the values of INIT and BODY. It fails only where there is no
 /// memory.
-pub fn feedback_line(cell: Option<LentCell<'_>>, parts: &[Seen]) -> Result<Line, AllocError>
-    ensures { IfOk result (λ l. line_of l ≡ state_now of_feedback (earlier cell.entry) parts.now no_call) }
+pub fn feedback_line(
+    cell: Option<LentCell<'_>>,
+    init: &Seen,
+    body: &Seen,
+) -> Result<Line, AllocError>
+    ensures { IfOk result (λ l. line_of l ≡ state_now of_feedback (earlier cell.entry) (init.now ∷ body.now ∷ []) no_call) }
 {
-    let next = datum_next(parts, 1)?;
-    let line = line_beside(share_part(parts, 1)?, next);
-    Ok(with_refusal(refusal_of(base_at(cell, parts, 0)), line))
+    let next = datum_next(plain_in(body))?;
+    let line = line_beside(share_seen(body)?, next);
+    Ok(with_refusal(refusal_of(base_in(cell, init)), line))
 }

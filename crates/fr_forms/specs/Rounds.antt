@@ -1,12 +1,11 @@
 -- What is left of the rounds of a loop.
-use Rattle.std.specs.Prelude.{ℕ, ◌+◌, ◌-◌, List, [], ◌∷◌, ◌++◌, map, length, take, drop, replicate, Option, Some, None}
-use denote.Ref.{Bor}
+use Rattle.std.specs.Prelude.{ℕ, ◌+◌, ◌-◌, List, [], ◌∷◌, ◌++◌, map, length, take, drop, replicate}
 use Rattle.fr_value.specs.declared.value.Datum.{Datum}
 use Rattle.fr_value.specs.declared.value.Value.{Value}
 use Rattle.fr_value.specs.Data.{data_of, value_of}
 use Rattle.fr_meaning.specs.Words.{Seen, plain}
-use Rattle.fr_lines.specs.declared.rounds.Rounds.{Rounds}
-use Rattle.fr_lines.specs.declared.rounds.Rounds.TheVariants as rounds
+use Rattle.fr_forms.specs.declared.rounds.Rounds.{Rounds}
+use Rattle.fr_forms.specs.declared.rounds.Rounds.TheVariants as rounds
 
 -- the items of a list from number n on, where these are at hand
 abbrev pub ahead : List Datum → ℕ → List Value → List Datum
@@ -25,8 +24,3 @@ rounds_left (rounds.Times number count) = replicate (count - number) []
 abbrev pub number_of : Rounds → ℕ
 number_of (rounds.Over number at_hand items) = number
 number_of (rounds.Times number count) = number
-
--- what is bound beside the accumulator in a round over this
-abbrev pub bound : Option (Bor Value) → List Seen
-bound None = []
-bound (Some v) = plain v.now ∷ []

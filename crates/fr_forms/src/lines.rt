@@ -1,6 +1,6 @@
 ghost use Rattle.std.specs.Prelude.{◌≡◌, IfOk, Err, None};
 ghost use Rattle.fr_meaning.specs.States.{gives, keeps, stays, cell_kind, of_operator, of_handler};
-ghost use Rattle.fr_lines.specs.Lent.{next_of, line_of, kind_of};
+ghost use Rattle.fr_forms.specs.Lent.{next_of, line_of, kind_of};
 
 use crate::seen::Seen;
 use fr_core::{Handler, Operator};

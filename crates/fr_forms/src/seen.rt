@@ -1,7 +1,7 @@
 ghost use Rattle.std.specs.Prelude.{◌≡◌, IfOk};
 ghost use Rattle.std.specs.Option.{option_copied};
 ghost use Rattle.fr_meaning.specs.Words.{part, on_ok, event_of, datum_in, test_of};
-ghost use Rattle.fr_lines.specs.Lent.{lent};
+ghost use Rattle.fr_forms.specs.Lent.{lent};
 
 use fr_value::{Bad, Now, Value};
 use std::alloc::AllocError;
