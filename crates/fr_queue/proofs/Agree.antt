@@ -109,7 +109,8 @@ module _ (s t : Pairs) (m w : ℕ → Option ℕ) (n h : ℕ) where
   agree_drop agree at set map i k = elim (by_number n i) [
     | inl e ↦
         let s0 : s (k, n) ≡ nat_eq h k = agree n k ∙ ap (λ (o : Option ℕ). is_height o k) at in
-        let t0 : t (k, n) ≡ cond (nat_eq h k) false (nat_eq h k) = set (k, n) ∙ ap (λ (b : Bool). cond b false (s (k, n))) (pair_same h n k) ∙ ap (λ (b : Bool). cond (nat_eq h k) false b) s0 in
+        let t0 : t (k, n) ≡ cond (nat_eq h k) false (nat_eq h k) = set (k, n) ∙ ap (λ (b : Bool). cond b false (s (k, n))) (pair_same h n k)
+        ∙ ap (λ (b : Bool). cond (nat_eq h k) false b) s0 in
         let w0 : w n ≡ None = map n ∙ ap (λ (b : Bool). cond b None (m n)) (at_number n n ∙ eq_self n) in
         subst (λ (j : ℕ). t (k, j) ≡ is_height (w j) k) e (t0 ∙ drop_self (nat_eq h k) ∙ sym (ap (λ (o : Option ℕ). is_height o k) w0))
     | inr ne ↦
@@ -125,7 +126,8 @@ module _ (s t : Pairs) (m w : ℕ → Option ℕ) (n h : ℕ) where
     | inl e ↦
         let s0 : s (k, n) ≡ false = agree n k ∙ ap (λ (o : Option ℕ). is_height o k) out in
         let t0 : t (k, n) ≡ nat_eq h k = set (k, n) ∙ ap (λ (b : Bool). cond (at_key h n (k, n)) true b) s0 ∙ cond_same (at_key h n (k, n)) ∙ pair_same h n k in
-        let u0 : u (k, n) ≡ cond (nat_eq h k) false (nat_eq h k) = back (k, n) ∙ ap (λ (b : Bool). cond b false (t (k, n))) (pair_same h n k) ∙ ap (λ (b : Bool). cond (nat_eq h k) false b) t0 in
+        let u0 : u (k, n) ≡ cond (nat_eq h k) false (nat_eq h k) = back (k, n) ∙ ap (λ (b : Bool). cond b false (t (k, n))) (pair_same h n k)
+        ∙ ap (λ (b : Bool). cond (nat_eq h k) false b) t0 in
         subst (λ (j : ℕ). u (k, j) ≡ is_height (w j) k) e (u0 ∙ drop_self (nat_eq h k) ∙ sym (ap (λ (o : Option ℕ). is_height o k) (map n ∙ out)))
     | inr ne ↦
         back (k, i) ∙ ap (λ (b : Bool). cond b false (t (k, i))) (pair_apart h n k i ne)
@@ -141,8 +143,10 @@ pub agree_raise : (s t u : Pairs) (m w : ℕ → Option ℕ) (n h g : ℕ) → (
 agree_raise s t u m w n h g agree at set back map ne i k = elim (by_number n i) [
   | inl e ↦
       let s0 : s (k, n) ≡ nat_eq h k = agree n k ∙ ap (λ (o : Option ℕ). is_height o k) at in
-      let t0 : t (k, n) ≡ cond (nat_eq g k) true (nat_eq h k) = set (k, n) ∙ ap (λ (b : Bool). cond b true (s (k, n))) (pair_same g n k) ∙ ap (λ (b : Bool). cond (nat_eq g k) true b) s0 in
-      let u0 : u (k, n) ≡ cond (nat_eq h k) false (cond (nat_eq g k) true (nat_eq h k)) = back (k, n) ∙ ap (λ (b : Bool). cond b false (t (k, n))) (pair_same h n k) ∙ ap (λ (b : Bool). cond (nat_eq h k) false b) t0 in
+      let t0 : t (k, n) ≡ cond (nat_eq g k) true (nat_eq h k) = set (k, n) ∙ ap (λ (b : Bool). cond b true (s (k, n))) (pair_same g n k)
+      ∙ ap (λ (b : Bool). cond (nat_eq g k) true b) s0 in
+      let u0 : u (k, n) ≡ cond (nat_eq h k) false (cond (nat_eq g k) true (nat_eq h k)) = back (k, n)
+      ∙ ap (λ (b : Bool). cond b false (t (k, n))) (pair_same h n k) ∙ ap (λ (b : Bool). cond (nat_eq h k) false b) t0 in
       let w0 : w n ≡ Some g = map n ∙ ap (λ (b : Bool). cond b (Some g) (m n)) (at_number n n ∙ eq_self n) in
       subst (λ (j : ℕ). u (k, j) ≡ is_height (w j) k) e (u0 ∙ moved h g k ne ∙ sym (ap (λ (o : Option ℕ). is_height o k) w0))
   | inr na ↦
