@@ -1,5 +1,5 @@
 -- How what a run tells of parts makes what it tells of the whole.
-use Rattle.std.proofs.Common.{◌≡◌, ◌+◌, ◌≤◌, ◌<◌, ℕ, suc, add-one, get_or, Bool, true, false, List, [], ◌∷◌, ◌++◌, length, take, drop, slice_get, refl, sym, ap, subst, ◌∙◌, append_assoc, arith, Option, Some, None, Ok, Err, Result}
+use Rattle.std.proofs.Common.{◌≡◌, ◌+◌, ◌≤◌, ◌<◌, ℕ, suc, add-one, get_or, Bool, true, false, List, [], ◌∷◌, ◌++◌, length, take, drop, slice_get, refl, sym, ap, subst, ◌∙◌, append_assoc, arith, Some, None, Ok, Err, Result}
 use Rattle.std.proofs.lemmas.List.{drop-append-le, length-append, append-nil, length-take-le}
 use Rattle.std.proofs.lemmas.Option.{slice_get_within, get_or_from_slice_get}
 use Rattle.std.specs.List.{remove}
@@ -13,7 +13,7 @@ use Rattle.fr_core.specs.declared.core_form.Core.{Core}
 use Rattle.fr_core.specs.declared.kept.Kept.{Kept}
 use Rattle.fr_core.specs.declared.kept.Kept.TheVariants as kept
 use Rattle.fr_core.specs.declared.program.Function.{Function}
-use Rattle.fr_meaning.specs.Words.{Seen, Env, First, Done, own, under, part, test_of}
+use Rattle.fr_meaning.specs.Words.{Seen, Env, First, Done, own, under, test_of}
 use Rattle.fr_meaning.specs.Primitives.{applied}
 use Rattle.fr_meaning.specs.Cells.{child}
 use Rattle.fr_meaning.specs.States.{gives}
@@ -23,7 +23,7 @@ use Rattle.fr_kernel.specs.declared.machine.Kind.TheVariants as kind
 use Rattle.fr_kernel.specs.declared.machine.Machine.{Machine}
 use Rattle.fr_kernel.specs.declared.fuel.KernStop.{KernStop}
 use Rattle.fr_kernel.specs.declared.fuel.KernStop.TheVariants as stop
-use Rattle.fr_kernel.specs.Answers.{here, kind_of, StopsBy, Gives, Answers, Tells, scope, Holds, HoldsOr, BindsOr, AppliesHeld, SpendsOr, BindsTurnOr, PutsOr, Puts, TakesOr, Takes, TestsOr, Untold, IsWant, answer, Ran}
+use Rattle.fr_kernel.specs.Answers.{here, kind_of, StopsBy, Gives, Answers, Tells, scope, Holds, BindsOr, AppliesHeld, SpendsOr, BindsTurnOr, PutsOr, Puts, TakesOr, Takes, TestsOr, Untold, IsWant, Ran}
 
 -- a stop of a part is one of the whole
 pub stop_within : (s : KernStop) (f1 f0 c1 c0 : ℕ) (x1 x0 : First) → StopsBy s f1 c1 x1 → (f1 < c1 → f0 < c0) → ((b : Bad) → kind_of x1 ≡ Some b → kind_of x0 ≡ Some b) → StopsBy s f0 c0 x0

@@ -1,13 +1,12 @@
 -- What a run tells of an evaluation.
 use Rattle.std.specs.Prelude.{◌≡◌, ℕ, ◌+◌, ◌<◌, Bool, true, false, List, [], ◌∷◌, ◌++◌, take, drop, Option, Some, None, Result, Ok, Err}
-use Rattle.std.specs.Option.{option_map}
 use Rattle.fr_value.specs.declared.now.Now.{Now}
 use Rattle.fr_value.specs.declared.now.Bad.{Bad}
 use Rattle.fr_value.specs.declared.now.Bad.TheVariants.{Deep}
 use Rattle.fr_value.specs.declared.value.Value.TheVariants as value
 use Rattle.fr_core.specs.declared.program.Function.{Function}
 use Rattle.fr_meaning.specs.Words.{Seen, Env, First, Done, own, plain, test_of}
-use Rattle.fr_meaning.specs.Evaluation.{World, Ev, Parts, Turns, eval_to}
+use Rattle.fr_meaning.specs.Evaluation.{World, Ev, eval_to}
 use Rattle.fr_kernel.specs.declared.machine.Kind.{Kind}
 use Rattle.fr_kernel.specs.declared.machine.Kind.TheVariants as kind
 use Rattle.fr_kernel.specs.declared.machine.Machine.{Machine}

@@ -1,4 +1,4 @@
-use Rattle.std.proofs.Common.{◌≡◌, Option, Some, None, Ok, Err, refl, ap, subst, ◌∙◌}
+use Rattle.std.proofs.Common.{Option, Some, refl, ap, subst, ◌∙◌}
 use Rattle.fr_meaning.specs.Words.{Seen}
 use Rattle.fr_meaning.specs.Evaluation.{eval}
 use Rattle.fr_kernel.specs.Answers.{world, scope, TakesOr}

@@ -1,4 +1,4 @@
-use Rattle.std.proofs.Common.{◌≡◌, ◌≤◌, ◌<◌, ◌+◌, [], ◌∷◌, ◌++◌, Some, length, drop, refl, sym, ap, subst, ◌∙◌, arith, rules}
+use Rattle.std.proofs.Common.{◌<◌, ◌+◌, [], ◌∷◌, length, drop, refl, ap, subst, ◌∙◌, arith, rules}
 use Rattle.fr_core.specs.declared.core_form.Core.{out-Core}
 use Rattle.fr_core.specs.declared.core_form.Core.TheVariants.{outs-Lit, outs-Var, outs-Source, outs-Let, outs-If, outs-Apply, outs-Operator, outs-Loop}
 use Rattle.fr_core.specs.declared.kept.Kept.{Kept}
