@@ -22,7 +22,7 @@ fn levels_from(nest: u32) -> u32
 /// Ok gives its value, where the evaluation has no error, and exactly its cost was spent. `Bad` has the kind of the
 /// evaluation's first error, and `Fuel` comes only where its cost is above what was left; after either, and where there
 /// is no memory, what is left of the fuel is of no meaning.
-pub fn run(
+pub(crate) fn run(
     alloc: Global,
     functions: &[Function],
     expr: &Core,
