@@ -1,0 +1,4 @@
+mod Runs
+mod Numbers
+mod Copies
+mod Tables

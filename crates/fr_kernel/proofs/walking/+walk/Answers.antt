@@ -1,0 +1,130 @@
+use Rattle.std.proofs.Common.{◌<◌, ◌+◌, [], ◌∷◌, length, drop, refl, ap, subst, ◌∙◌, arith, rules}
+use Rattle.fr_core.specs.declared.core_form.Core.{out-Core}
+use Rattle.fr_core.specs.declared.core_form.Core.TheVariants.{outs-Lit, outs-Var, outs-Source, outs-Let, outs-If, outs-Apply, outs-Operator, outs-Loop}
+use Rattle.fr_core.specs.declared.kept.Kept.{Kept}
+use Rattle.fr_core.specs.declared.kept.Kept.TheVariants as kept
+use Rattle.fr_meaning.specs.Cells.{child}
+use Rattle.fr_meaning.specs.Evaluation.{parts}
+use Rattle.fr_meaning.proofs.Levels.{at_zero, at_level}
+use Rattle.fr_lines.specs.Rounds.{bound}
+use Rattle.fr_kernel.specs.declared.machine.Machine.{Machine}
+use Rattle.fr_kernel.specs.Answers.{here, scope, Tells}
+use Rattle.fr_kernel.proofs.Runs.{let_tells, call_tells, turn_tells, enters, told, onward, onward_stop, puts, puts_none, next_part, within_entered, within_held}
+use Rattle.fr_kernel.proofs.walking.+walk.Goals as goal
+
+pub walk-returns-then-left-eq0 : goal.walk-returns-then-left-eq0
+walk-returns-then-left-eq0 t c = λ k. rw (at_zero _ _ _ _ _ c.if-left-eq0.true, c.stopped.ensures.0, c.stopped.ensures.1) refl
+
+pub walk-returns-in-Lit : goal.walk-returns-in-Lit
+walk-returns-in-Lit t c = λ k. rw (at_level c.args.left _ _ _ _ _ c.if-left-eq0.false (ap out-Core c.in-Lit.is ∙ outs-Lit _)) c.give_literal.ensures
+
+pub walk-returns-in-Var : goal.walk-returns-in-Var
+walk-returns-in-Var t c = λ k. rw (at_level c.args.left _ _ _ _ _ c.if-left-eq0.false (ap out-Core c.in-Var.is ∙ outs-Var _)) c.give_slot.ensures
+
+pub walk-returns-in-Source : goal.walk-returns-in-Source
+walk-returns-in-Source t c = λ k. rw (at_level c.args.left _ _ _ _ _ c.if-left-eq0.false (ap out-Core c.in-Source.is ∙ outs-Source _), c.stopped-in-Source.ensures.0, c.stopped-in-Source.ensures.1) refl
+
+pub walk-returns-in-If : goal.walk-returns-in-If
+walk-returns-in-If t c =
+    let h = rw (c.get.ensures, c.get-in-If.ensures, c.get-in-If-2.ensures) at c.walk_if.ensures in
+    λ k. rw (at_level c.args.left _ _ _ _ _ c.if-left-eq0.false (ap out-Core c.in-If.is ∙ outs-If _ _ _)) (h k)
+
+pub walk-returns-in-Operator : goal.walk-returns-in-Operator
+walk-returns-in-Operator t c =
+    let h = rw c.as_slice.ensures at c.walk_operator.ensures in
+    λ k. rw (at_level c.args.left _ _ _ _ _ c.if-left-eq0.false (ap out-Core c.in-Operator.is ∙ outs-Operator _ _)) (h k)
+
+pub walk_operator-returns-in-Some : goal.walk_operator-returns-in-Some
+walk_operator-returns-in-Some t c = λ k. rw c.in-Some.ensures (c.walk_prim.ensures k)
+
+pub walk-returns-in-Let : goal.walk-returns-in-Let
+walk-returns-in-Let t c =
+    let h = rw (c.as_slice-in-Let.ensures, c.get-in-Let.ensures) at c.walk_let.ensures in
+    λ k. rw (at_level c.args.left _ _ _ _ _ c.if-left-eq0.false (ap out-Core c.in-Let.is ∙ outs-Let _ _)) (h k)
+
+pub walk-returns-in-Apply : goal.walk-returns-in-Apply
+walk-returns-in-Apply t c =
+    let h = rw c.as_slice-in-Apply.ensures at c.walk_call.ensures in
+    λ k. rw (at_level c.args.left _ _ _ _ _ c.if-left-eq0.false (ap out-Core c.in-Apply.is ∙ outs-Apply _ _)) (h k)
+
+pub walk-returns-in-Loop : goal.walk-returns-in-Loop
+walk-returns-in-Loop t c =
+    let h = rw (c.as_slice-in-Loop.ensures, c.get-in-Loop.ensures) at c.walk_loop.ensures in
+    λ k. rw (at_level c.args.left _ _ _ _ _ c.if-left-eq0.false (ap out-Core c.in-Loop.is ∙ outs-Loop _ _ _)) (h k)
+
+pub walk_call-returns : goal.walk_call-returns
+walk_call-returns t c =
+    let e = rw c.len-held.ensures at c.if-not-bind_held.ensures in
+    let last = rw c.len-inner.ensures at c.walk-kind.ensures in
+    λ k. rw (c.cut_slots.ensures, c.len-inner.ensures, ← c.in-Some.ensures) (call_tells c.args.functions.now c.args.left k c.walk-kind.result c.args.m.now c.walk_parts.new.m c.spend.new.m c.bind_held.new.m c.walk-kind.new.m
+    (parts (here c.args.functions.now c.args.left) (scope c.args.base c.args.m.now) k 0 c.args.args.now) (length c.args.args.now) c.in-Some.body.now
+    (c.if-not-walk_parts.ensures k) c.if-not-spend.ensures e (last (child k (length c.args.args.now))))
+
+pub walk_if-walk-requires : goal.walk_if-walk-requires
+walk_if-walk-requires t c =
+    let d = here c.args.functions.now c.args.left c.args.test.now (scope c.args.base c.args.m.now) kept.Nothing in
+    let g = told c.walk-kind.result c.args.m.now c.walk-kind.new.m c.tested.new.m d.value d.cost d.first c.in-Some-true.field-0 c.in-Some-true.ensures (c.walk-kind.ensures kept.Nothing) in
+    (search rules, within_entered c.args.base c.args.m.now c.tested.new.m [] g.1.slots c.requires)
+
+pub walk_if-walk-requires-in-Some-false : goal.walk_if-walk-requires-in-Some-false
+walk_if-walk-requires-in-Some-false t c =
+    let d = here c.args.functions.now c.args.left c.args.test.now (scope c.args.base c.args.m.now) kept.Nothing in
+    let g = told c.walk-kind.result c.args.m.now c.walk-kind.new.m c.tested.new.m d.value d.cost d.first c.in-Some-false.field-0 c.in-Some-false.ensures (c.walk-kind.ensures kept.Nothing) in
+    (search rules, within_entered c.args.base c.args.m.now c.tested.new.m [] g.1.slots c.requires)
+
+pub walk_let-walk-kind-requires : goal.walk_let-walk-kind-requires
+walk_let-walk-kind-requires t c =
+    let ps = parts (here c.args.functions.now c.args.left) (scope c.args.base c.args.m.now) kept.Nothing 0 c.args.exprs.now in
+    let e = rw c.len-held.ensures at c.if-not-bind_held.ensures in
+    let g = enters c.args.m.now c.walk_parts.new.m c.bind_held.new.m ps.values ps.cost ps.first (c.if-not-walk_parts.ensures kept.Nothing) e in
+    (search rules, within_entered c.args.base c.args.m.now c.bind_held.new.m ps.values g.slots c.requires)
+
+pub walk_let-returns : goal.walk_let-returns
+walk_let-returns t c =
+    let e = rw c.len-held.ensures at c.if-not-bind_held.ensures in
+    λ k. rw (c.cut_slots.ensures, c.len-outer.ensures) (let_tells c.args.functions.now c.args.left c.args.base k c.walk-kind.result c.args.m.now c.walk_parts.new.m c.bind_held.new.m c.walk-kind.new.m c.args.exprs.now c.args.body.now
+    c.requires (c.if-not-walk_parts.ensures k) e (c.walk-kind.ensures (child k (length c.args.exprs.now))))
+
+pub walk_loop-walk_rounds-requires : goal.walk_loop-walk_rounds-requires
+walk_loop-walk_rounds-requires t c =
+    let h = c.if-not-walk_parts.ensures kept.Nothing in
+    (search rules, rw (ap (λ (m : Machine). m.slots) c.in-Ok.ensures.1, h.slots) c.requires)
+
+pub walk_parts-returns-then-not-hold : goal.walk_parts-returns-then-not-hold
+walk_parts-returns-then-not-hold t c =
+    let ev = here c.args.functions.now c.args.left in
+    let env = scope c.args.base c.args.m.now in
+    let i = c.loop-i.i in
+    let e = c.index-exprs-i.result in
+    let within : i < length c.args.exprs.now = grind arith in
+    let front = next_part c.args.exprs.now i e within c.index-exprs-i.is in
+    let w = λ (k : Kept). subst (λ s. Tells c.walk-kind.result c.loop-i.m c.walk-kind.new.m (ev e (drop c.args.base s) k)) c.loop-i.invariant.same_slots (c.walk-kind.ensures k) in
+    λ k. let d = ev e env (child k i) in
+    onward_stop c.args.m.now c.loop-i.m c.hold.new.m d i (parts ev env k (i + 1) (drop (i + 1) c.args.exprs.now)) (parts ev env k 0 c.args.exprs.now)
+    (rw front at c.loop-i.invariant.so_far k)
+    (puts_none c.walk-kind.result c.loop-i.m c.walk-kind.new.m c.hold.new.m d.value d.cost d.first c.if-not-hold.ensures (w (child k i)))
+
+pub walk_parts-loop-i-preserved : goal.walk_parts-loop-i-preserved
+walk_parts-loop-i-preserved t c =
+    let ev = here c.args.functions.now c.args.left in
+    let env = scope c.args.base c.args.m.now in
+    let i = c.loop-i.i in
+    let e = c.index-exprs-i.result in
+    let within : i < length c.args.exprs.now = grind arith in
+    let front = next_part c.args.exprs.now i e within c.index-exprs-i.is in
+    let w = λ (k : Kept). subst (λ s. Tells c.walk-kind.result c.loop-i.m c.walk-kind.new.m (ev e (drop c.args.base s) k)) c.loop-i.invariant.same_slots (c.walk-kind.ensures k) in
+    let held = λ (k : Kept). puts c.walk-kind.result c.loop-i.m c.walk-kind.new.m c.hold.new.m (ev e env k).value (ev e env k).cost (ev e env k).first c.if-not-hold.ensures (w k) in
+    record {
+      same_slots = (held kept.Nothing).slots ∙ c.loop-i.invariant.same_slots;
+      so_far = λ k. onward c.args.m.now c.loop-i.m c.hold.new.m (ev e env (child k i)) i (parts ev env k (i + 1) (drop (i + 1) c.args.exprs.now)) (parts ev env k 0 c.args.exprs.now)
+          (rw front at c.loop-i.invariant.so_far k) (held (child k i));
+    }
+
+pub walk_prim-apply_held-requires : goal.walk_prim-apply_held-requires
+walk_prim-apply_held-requires t c =
+    let vs = (parts (here c.args.functions.now c.args.left) (scope c.args.base c.args.m.now) kept.Nothing 0 c.args.exprs.now).values in
+    rw c.len-held.ensures (within_held c.args.m.now c.walk_parts.new.m vs (c.if-not-walk_parts.ensures kept.Nothing).held)
+
+pub walk_turn-returns : goal.walk_turn-returns
+walk_turn-returns t c = rw (c.cut_slots.ensures, c.len-outer.ensures) (turn_tells c.args.functions.now c.args.left c.args.base c.walk-kind.result c.args.m.now c.spend.new.m c.bind_turn.new.m c.walk-kind.new.m c.args.body.now
+    (c.args.acc ∷ bound c.args.item) c.requires c.if-not-spend.ensures c.if-not-bind_turn.ensures c.walk-kind.ensures)

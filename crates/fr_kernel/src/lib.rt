@@ -1,0 +1,17 @@
+//! Kernels: pure expressions that are run over slots, with fuel. Nothing uses it yet.
+#![tactic(auto)]
+
+mod fuel;
+mod laws;
+mod machine;
+mod names;
+mod placing;
+mod running;
+mod table;
+mod walking;
+
+pub use fuel::{Fuel, KernStop};
+pub use laws::numbering_keeps_the_meaning;
+pub use machine::Machine;
+pub use names::Names;
+pub use table::{Kern, KernTable, run_kern};

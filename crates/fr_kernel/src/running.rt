@@ -1,0 +1,60 @@
+ghost use Rattle.std.specs.Prelude.{◌≡◌, ◌-◌, Ok, map};
+ghost use Rattle.fr_core.specs.declared.kept.Kept.{Kept};
+ghost use Rattle.fr_meaning.specs.Evaluation.{eval};
+ghost use Rattle.fr_kernel.specs.Answers.{world, scope, Ran};
+
+use crate::fuel::{Fuel, KernStop};
+use crate::machine::{Machine, begin, value_of};
+use crate::walking::walk;
+use fr_core::{Core, Function};
+use fr_value::Now;
+use std::alloc::Global;
+
+/// How many levels an expression may nest that stands at a nest.
+fn levels_from(nest: u32) -> u32
+    ensures { result ≡ 2001 - nest }
+{
+    2001u32.saturating_sub(nest)
+}
+
+/// Evaluates an expression at a nest, where its variables are these inputs and it names no source.
+///
+/// Ok gives its value, where the evaluation has no error, and exactly its cost was spent. `Bad` has the kind of the
+/// evaluation's first error, and `Fuel` comes only where its cost is above what was left; after either, and where there
+/// is no memory, what is left of the fuel is of no meaning.
+pub(crate) fn run(
+    alloc: Global,
+    functions: &[Function],
+    expr: &Core,
+    inputs: &[Now],
+    nest: u32,
+    machine: &mut Machine,
+    fuel: &mut Fuel,
+) -> Result<Now, KernStop>
+    ensures { (k : Kept) → Ran result fuel.old.left fuel.new.left (eval (world functions.now) nest expr.now (map (λ n. Ok n) inputs.now) k) }
+{
+    match begin(machine, inputs, fuel.left) {
+        Err(e) => Err(KernStop::Memory(e)),
+        Ok(()) => run_begun(alloc, functions, expr, nest, machine, fuel),
+    }
+}
+
+/// The same, where the machine has the inputs and the fuel.
+fn run_begun(
+    alloc: Global,
+    functions: &[Function],
+    expr: &Core,
+    nest: u32,
+    machine: &mut Machine,
+    fuel: &mut Fuel,
+) -> Result<Now, KernStop>
+    ensures { (k : Kept) → Ran result machine.old.fuel fuel.new.left (eval (world functions.now) nest expr.now (scope 0 machine.old) k) }
+{
+    let kind = walk(alloc, functions, levels_from(nest), machine, 0, expr);
+    fuel.left = machine.fuel;
+    match value_of(machine, kind) {
+        Some(Ok(now)) => Ok(now),
+        Some(Err(bad)) => Err(KernStop::Bad(bad)),
+        None => Err(machine.stop),
+    }
+}
