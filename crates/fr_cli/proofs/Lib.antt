@@ -1,3 +1,3 @@
 pub mod Runs
 pub mod Statuses
-pub mod Told
+pub mod Writing

@@ -10,18 +10,20 @@ use Rattle.fr_io.proofs.Counts as counting
 use Rattle.fr_io.proofs.Shelves.{any_rose, reads_then, reads_among, reads_if}
 use Rattle.fr_core.specs.declared.program.Program.{Program as Core}
 use Rattle.fr_show.specs.declared.stop.Stop.{Stop}
-use Rattle.fr_show.specs.declared.stop.Stop.TheVariants.{Usage, Script, Evaluation, Program, Read, Write, Memory}
+use Rattle.fr_show.specs.declared.stop.Stop.TheVariants.{Script, Evaluation, Program, Read, Write, Memory}
 use Rattle.fr_show.specs.declared.acceptance.AcceptStop.{AcceptStop}
 use Rattle.fr_show.specs.declared.acceptance.AcceptStop.TheVariants.{Refused, Memory as NoMemory}
 use Rattle.fr_show.specs.Accepted.{IsProgram, Verdict, OnJudged, OnEachJudged}
 use Rattle.fr_show.specs.Ends.{EndsThere, StopSays, SaysOn, Begins}
 use Rattle.fr_show.specs.Output.{course_over}
-use Rattle.fr_show.specs.Stops.{Tells, unaccepted}
+use Rattle.fr_show.specs.Stops.{Explains, unaccepted}
 use Rattle.fr_show.proofs.Courses.{appends_nothing, nothing_whole}
 use Rattle.fr_show.proofs.Judged.{on_each, on_read, judged_of_front, says_of_front, read_accepted}
+use Rattle.fr_cli.specs.declared.telling.Failure.{Failure}
+use Rattle.fr_cli.specs.declared.telling.Failure.TheVariants.{Usage, Stopped}
 use Rattle.fr_cli.specs.Command.{Command, over_script, check, checked, AllRead, IsAmong}
 use Rattle.fr_cli.specs.Lines.{status_of}
-use Rattle.fr_cli.specs.Obeyed.{IsUnread, Obeys}
+use Rattle.fr_cli.specs.Obeyed.{IsUnread, Obeys, failed}
 
 -- among more files than the first
 pub first_alone : {first : List ℕ} {more : List (List ℕ)} {fault : Type 0} {h0 h1 : Holds} {r0 r1 : Reached} {c0 c1 : Faults}
@@ -32,16 +34,29 @@ only : (a : List ℕ) (before now : Faults) → AnyRose (a ∷ []) before now �
 only a before now (inl h) = h
 only a before now (inr h) = absurd h
 
+-- a stop that a failure stands for
+same_stop : (a b : Stop) → Stopped a ≡ Stopped b → a ≡ b
+same_stop a b e = ap (stop_in a) e
+  where
+    stop_in : Stop → Failure → Stop
+    stop_in s Usage = s
+    stop_in s (Stopped t) = t
+
+-- the reads of a call, whose fault is a failure of the command
+reads_failed : {names : List (List ℕ)} {h0 h1 : Holds} {r0 r1 : Reached} {c0 c1 : Faults} (stop : Stop)
+    → Reads names (stop ≡ Read) h0 h1 r0 r1 c0 c1 → Reads names (Stopped stop ≡ Stopped Read) h0 h1 r0 r1 c0 c1
+reads_failed stop s = reads_if (same_stop stop Read) (λ e. ap Stopped e) s
+
 -- a program's file couldn't be read
 pub unread : {T : Type 0} (w : Command) (stop : Stop) (h0 h1 : Holds) (r0 r1 : Reached) (c0 c1 : Faults) (x : Option (List ℕ)) (f : ℕ)
     → IsUnread stop → IsAmong 6 w.statuses → IsAmong 8 w.statuses → Reads (w.program ∷ []) (stop ≡ Read) h0 h1 r0 r1 c0 c1
-    → Obeys {T = T} (Some w) (Err stop) h0 h1 r0 r1 c0 c1 x x f f
+    → Obeys {T = T} (Some w) (Err (Stopped stop)) h0 h1 r0 r1 c0 c1 x x f f
 unread w Read h0 h1 r0 r1 c0 c1 x f is six eight s = record {
   ok = tt;
   err = on_each (w.course h0) (h0 w.program) _ (λ c. nothing_whole (take 1 c.texts) x);
   to_end = tt;
   unread = λ e. inl (only w.program c0 c1 (s.rises refl), appends_nothing x);
-  shelf = first_alone s;
+  shelf = first_alone (reads_failed Read s);
   counts = counting.stays _ f f (λ e. absurd (cc)) refl;
   answers = six;
   usage = (λ e. absurd (cc), λ e. absurd (cc));
@@ -52,17 +67,13 @@ unread w (Memory m) h0 h1 r0 r1 c0 c1 x f is six eight s = record {
   err = on_each (w.course h0) (h0 w.program) _ (λ c. nothing_whole c.texts x);
   to_end = tt;
   unread = λ e. absurd (cc);
-  shelf = first_alone s;
+  shelf = first_alone (reads_failed (Memory m) s);
   counts = counting.stays _ f f (λ e. absurd (cc)) refl;
   answers = eight;
   usage = (λ e. absurd (cc), λ e. absurd (cc));
   quiet = λ q not. appends_nothing x;
 }
-unread w Usage h0 h1 r0 r1 c0 c1 x f is six eight s = absurd is
-unread w (Program form kind) h0 h1 r0 r1 c0 c1 x f is six eight s = absurd is
-unread w (Script line kind) h0 h1 r0 r1 c0 c1 x f is six eight s = absurd is
-unread w (Evaluation time) h0 h1 r0 r1 c0 c1 x f is six eight s = absurd is
-unread w Write h0 h1 r0 r1 c0 c1 x f is six eight s = absurd is
+unread w other h0 h1 r0 r1 c0 c1 x f is six eight s = absurd is
 
 -- what a session leaves
 pub record Session {T : Type 0} (answer : Result T Stop) (text script : List ℕ) (h0 h1 : Holds) (r0 r1 : Reached) (c0 c1 : Faults) (x y : Option (List ℕ)) (f g : ℕ) : Type 0 where
@@ -72,7 +83,6 @@ pub record Session {T : Type 0} (answer : Result T Stop) (text script : List ℕ
   pub began : FailsAs answer Read → (any : Option (List ℕ)) → OnJudged (course_over any) (Some text) (λ c. Begins c x y)
   pub shelf : Reads (script ∷ []) (FailsAs answer Read) h0 h1 r0 r1 c0 c1
   pub counts : Counts (FailsAs answer Write) f g
-  pub no_usage : IsErrOf answer Usage → ⊥
 
 same_or_not : (a b : List ℕ) → (a ≡ b) ⊎ (a ≢ b)
 same_or_not a b = by (bytes_eq a b) refl
@@ -110,20 +120,15 @@ both_read program script h r0 r1 r2 (inl one) first second p s =
     let all = told_twice (h program) (r0 program) (r1 program) (r2 program) p again in
     (all, (subst (λ (n : List ℕ). IfSome (h n) (λ file. ReachesFront (r0 n) (r2 n) (length file))) (sym one) all, tt))
 
-run_answers : (stop : Stop) → (stop ≡ Usage → ⊥) → IsAmong (status_of stop) (0 ∷ 2 ∷ 3 ∷ 4 ∷ 6 ∷ 7 ∷ 8 ∷ [])
-run_answers Usage never = absurd (never refl)
-run_answers (Program form kind) never = search rules
-run_answers (Script line kind) never = search rules
-run_answers (Evaluation time) never = search rules
-run_answers Read never = search rules
-run_answers Write never = search rules
-run_answers (Memory e) never = search rules
+run_answers : (stop : Stop) → IsAmong (status_of (Stopped stop)) (0 ∷ 2 ∷ 3 ∷ 4 ∷ 6 ∷ 7 ∷ 8 ∷ [])
+run_answers Read = search rules
+run_answers other = search rules
 
 -- a session behind the reading of the program
 pub ran : {T : Type 0} (word program script text : List ℕ) (answer : Result T Stop) (h0 h1 h2 : Holds) (r0 r1 r2 : Reached) (c0 c1 c2 : Faults) (x y : Option (List ℕ)) (f g : ℕ)
     → IfSome (h0 program) (λ file. text ≡ take 1048577 file) → ReachesFront (r0 program) (r1 program) (length text)
     → Reads (program ∷ []) ⊥ h0 h1 r0 r1 c0 c1 → Session answer text script h1 h2 r1 r2 c1 c2 x y f g
-    → Obeys (Some (over_script word program script)) answer h0 h2 r0 r2 c0 c2 x y f g
+    → Obeys (Some (over_script word program script)) (failed answer) h0 h2 r0 r2 c0 c2 x y f g
 ran word program script text (Ok t) h0 h1 h2 r0 r1 r2 c0 c1 c2 x y f g bytes reached s k =
     let isp = accepted (h1 script) text x y k.ok in
     record {
@@ -146,20 +151,20 @@ ran word program script text (Err stop) h0 h1 h2 r0 r1 r2 c0 c1 c2 x y f g bytes
       (subst (λ (o : Option (List ℕ)). SaysOn stop (OnJudged (course_over o) (Some text)) (OnEachJudged (course_over o) (Some text)) x y) (s.files script) k.err);
   to_end = tt;
   unread = λ e. inr (
-    any_rose (script ∷ []) c0 c1 c2 (s.stays (λ b. b)) (k.shelf.rises e),
-    λ any. judged_of_front (course_over (any script)) (h0 program) text (λ c. Begins c x y) bytes (k.began e (any script)),
+    any_rose (script ∷ []) c0 c1 c2 (s.stays (λ b. b)) (k.shelf.rises (same_stop stop Read e)),
+    λ any. judged_of_front (course_over (any script)) (h0 program) text (λ c. Begins c x y) bytes (k.began (same_stop stop Read e) (any script)),
   );
-  shelf = reads_then (first_alone s) (λ b. b) (reads_among (λ name a. (a.1.0, tt)) inr k.shelf);
-  counts = k.counts;
-  answers = run_answers stop (λ e. k.no_usage (ap Err e));
-  usage = (λ e. absurd (k.no_usage (ap Err e)), λ e. absurd (cc));
+  shelf = reads_then (first_alone s) (λ b. b) (reads_among (λ name a. (a.1.0, tt)) inr (reads_failed stop k.shelf));
+  counts = counting.counts_if (same_stop stop Write) (λ e. ap Stopped e) k.counts;
+  answers = run_answers stop;
+  usage = (λ e. absurd (cc), λ e. absurd (cc));
   quiet = λ q. absurd (cc);
 }
 
 -- a program that isn't accepted, under `check`
 pub told_refused : {T : Type 0} (program text : List ℕ) (e : AcceptStop) (h0 h1 : Holds) (r0 r1 : Reached) (c0 c1 : Faults) (x : Option (List ℕ)) (f : ℕ)
-    → IfSome (h0 program) (λ file. text ≡ take 1048577 file) → Tells text e → Reads (program ∷ []) ⊥ h0 h1 r0 r1 c0 c1
-    → Obeys {T = T} (Some (check program)) (Err (unaccepted e)) h0 h1 r0 r1 c0 c1 x x f f
+    → IfSome (h0 program) (λ file. text ≡ take 1048577 file) → Explains text e → Reads (program ∷ []) ⊥ h0 h1 r0 r1 c0 c1
+    → Obeys {T = T} (Some (check program)) (Err (Stopped (unaccepted e))) h0 h1 r0 r1 c0 c1 x x f f
 told_refused program text (NoMemory m) h0 h1 r0 r1 c0 c1 x f bytes is s =
     unread (check program) (Memory m) h0 h1 r0 r1 c0 c1 x f tt (search rules) (search rules) (reads_if (λ e. absurd (cc)) (λ b. absurd b) s)
 told_refused program text (Refused form kind) h0 h1 r0 r1 c0 c1 x f bytes is s =
@@ -197,7 +202,7 @@ told_whole program text t p h0 h1 r0 r1 c0 c1 x y f g bytes reached is s w stay 
 pub told_cut : {T : Type 0} (program text : List ℕ) (p : Core) (h0 h1 : Holds) (r0 r1 : Reached) (c0 c1 : Faults) (x y : Option (List ℕ)) (f g : ℕ)
     → IfSome (h0 program) (λ file. text ≡ take 1048577 file) → IsProgram text p
     → Reads (program ∷ []) ⊥ h0 h1 r0 r1 c0 c1 → AppendsSome x y (codes "accepted\n") → Counts (true ≡ true) f g
-    → Obeys {T = T} (Some (check program)) (Err Write) h0 h1 r0 r1 c0 c1 x y f g
+    → Obeys {T = T} (Some (check program)) (Err (Stopped Write)) h0 h1 r0 r1 c0 c1 x y f g
 told_cut program text p h0 h1 r0 r1 c0 c1 x y f g bytes is s w rose = record {
   ok = tt;
   err = on_read checked (h0 program) text (Ok p) (λ c. StopSays Write c x y) bytes is w;

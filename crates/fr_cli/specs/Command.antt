@@ -6,10 +6,10 @@ use Rattle.std.specs.Io.KnownBytes.{Appends}
 use Rattle.fr_io.specs.Faults.{Rose, AnyRose}
 use Rattle.fr_io.specs.Files.{ReachesFront}
 use Rattle.fr_io.specs.Shelves.{Holds, Reached, Faults}
-use Rattle.fr_show.specs.declared.stop.Stop.TheVariants.{Usage, Program}
+use Rattle.fr_show.specs.declared.stop.Stop.TheVariants.{Program}
 use Rattle.fr_show.specs.Course.{Course, stopped}
 use Rattle.fr_show.specs.Accepted.{Verdict, OnJudged, OnEachJudged}
-use Rattle.fr_show.specs.Ends.{Begins}
+use Rattle.fr_show.specs.Ends.{AppendsWhole, Begins}
 use Rattle.fr_show.specs.Output.{course_over}
 
 -- a command: its word, the names of its program's file and of those behind it, its course by what is told of
@@ -85,15 +85,21 @@ command_of _ = None
 abbrev pub asked : List (String Global) → Option Command
 asked words = command_of (map string_bytes words)
 
--- the fact holds of the course of a command, where what the shelf tells of its files settles it
+-- the words are a command, and the fact holds of its course, where what the shelf tells of its files settles it
 abbrev pub OnCommand : Option Command → Holds → (Course → Type 0) → Type 0
-OnCommand None holds F = F (stopped (Some Usage))
+OnCommand None holds F = ⊥
 OnCommand (Some c) holds F = OnJudged (c.course holds) (holds c.program) F
 
 -- the same where the program's file may not have been judged
 abbrev pub OnEachCommand : Option Command → Holds → (Course → Type 0) → Type 0
-OnEachCommand None holds F = F (stopped (Some Usage))
+OnEachCommand None holds F = ⊥
 OnEachCommand (Some c) holds F = OnEachJudged (c.course holds) (holds c.program) F
+
+-- a whole number of the course's texts was appended, and nothing where the words are no command
+abbrev pub WritesWhole : Option Command → Holds → Option (List ℕ) → Option (List ℕ) → Type 0
+WritesWhole None holds old new = Appends old new []
+WritesWhole (Some c) holds old new =
+    OnEachJudged (c.course holds) (holds c.program) (λ d. AppendsWhole old new d.texts)
 
 -- the files that a command names
 abbrev pub files_in : Option Command → List (List ℕ)

@@ -1,4 +1,4 @@
 pub mod Command
 pub mod Lines
 pub mod Obeyed
-pub mod Told
+pub mod Requests

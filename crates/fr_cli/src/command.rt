@@ -1,7 +1,7 @@
 ghost use Rattle.std.specs.Prelude.{◌≡◌};
 ghost use Rattle.std.specs.Option.{option_map};
 ghost use Rattle.fr_cli.specs.Command.{asked, names_file, asked_for, over_one, over_two};
-ghost use Rattle.fr_cli.specs.Told.{told};
+ghost use Rattle.fr_cli.specs.Requests.{command_in};
 
 /// What the words ask for, with the files that they name.
 #[derive(Clone, Copy)]
@@ -25,8 +25,8 @@ fn names_file(word: &str) -> bool
 }
 
 /// What a word asks for with a program and a script.
-fn over_script<'a>(word: &str, program: &'a str, script: &'a str) -> Option<Request<'a>>
-    ensures { option_map told result ≡ asked_for word.now (over_two program.now script.now) }
+fn request_with_script<'a>(word: &str, program: &'a str, script: &'a str) -> Option<Request<'a>>
+    ensures { option_map command_in result ≡ asked_for word.now (over_two program.now script.now) }
 {
     match word {
         "run" => Some(Request::Run { program, script }),
@@ -36,8 +36,8 @@ fn over_script<'a>(word: &str, program: &'a str, script: &'a str) -> Option<Requ
 }
 
 /// What a word asks for with a program alone.
-fn over_program<'a>(word: &str, program: &'a str) -> Option<Request<'a>>
-    ensures { option_map told result ≡ asked_for word.now (over_one program.now) }
+fn request_with_program<'a>(word: &str, program: &'a str) -> Option<Request<'a>>
+    ensures { option_map command_in result ≡ asked_for word.now (over_one program.now) }
 {
     match word {
         "check" => Some(Request::Check { program }),
@@ -47,14 +47,14 @@ fn over_program<'a>(word: &str, program: &'a str) -> Option<Request<'a>>
 
 /// What the words ask for, or none where they are no command.
 pub fn request_of(words: &[String]) -> Option<Request<'_>>
-    ensures { option_map told result ≡ asked words.now }
+    ensures { option_map command_in result ≡ asked words.now }
 {
     match words {
         [word, program, script] if names_file(program.as_str()) && names_file(script.as_str()) => {
-            over_script(word.as_str(), program.as_str(), script.as_str())
+            request_with_script(word.as_str(), program.as_str(), script.as_str())
         }
         [word, program] if names_file(program.as_str()) => {
-            over_program(word.as_str(), program.as_str())
+            request_with_program(word.as_str(), program.as_str())
         }
         _ => None,
     }

@@ -10,21 +10,21 @@ use fr_show::Stop;
 use std::alloc::AllocError;
 use std::process::ExitCode;
 use std::{env, io};
-use telling::{status, tell};
+use telling::{Failure, status, tell};
 use top::frtime;
 
 /// The words after the program's name. A word that isn't UTF-8 is no word of a command.
-fn words(rt: &HostRuntime) -> Result<Vec<String>, Stop> {
+fn words(rt: &HostRuntime) -> Result<Vec<String>, Failure> {
     let given = match env::args(rt) {
         Ok(given) => given,
-        Err(e) if e.kind() == io::ErrorKind::InvalidData => return Err(Stop::Usage),
-        Err(_) => return Err(Stop::Memory(AllocError)),
+        Err(e) if e.kind() == io::ErrorKind::InvalidData => return Err(Failure::Usage),
+        Err(_) => return Err(Failure::Stopped(Stop::Memory(AllocError))),
     };
     let mut words = Vec::new(rt.alloc());
     for word in given.skip(1) {
         match words.push(word) {
             Ok(()) => {}
-            Err(_) => return Err(Stop::Memory(AllocError)),
+            Err(_) => return Err(Failure::Stopped(Stop::Memory(AllocError))),
         }
     }
     Ok(words)
@@ -36,9 +36,9 @@ fn main(rt: HostRuntime) -> ExitCode {
     let mut err = StdSink::errors(rt.stderr());
     let answer = match words(&rt) {
         Ok(words) => frtime(rt.alloc(), &words, &mut shelf, &mut out, &mut err),
-        Err(stop) => {
-            tell(&stop, &mut err);
-            status(&stop)
+        Err(failure) => {
+            tell(&failure, &mut err);
+            status(&failure)
         }
     };
     ExitCode::from(answer)

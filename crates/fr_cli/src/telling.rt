@@ -2,42 +2,64 @@ ghost use Rattle.std.specs.Prelude.{◌≡◌, ◌++◌, OnOk, OnErr, IsErr, dec
 ghost use Rattle.std.specs.Io.KnownBytes.{Appends};
 ghost use Rattle.fr_io.specs.Faults.{Counts};
 ghost use Rattle.fr_io.specs.Files.{AppendsSome};
-ghost use Rattle.fr_cli.specs.Lines.{status_of, line_of, refusal_end, program_word, line_word};
-ghost use Rattle.fr_cli.specs.Lines.{Tells};
+ghost use Rattle.fr_cli.specs.Lines.{status_of, failure_line, refusal_end, program_word, line_word};
+ghost use Rattle.fr_cli.specs.Lines.{WritesLine};
 
 use fr_io::{Failed, Sink, write_all};
 use fr_script::LineKind;
 use fr_show::{ProgramKind, Stop};
 use itoa::Buffer;
 
-/// The exit status of a stop.
-pub fn status(stop: &Stop) -> u8
-    ensures { result ≡ status_of stop.now }
+/// Why the top call ends with a status other than 0.
+#[derive(Debug, Drop)]
+pub enum Failure {
+    /// The words are no command.
+    Usage,
+    /// The command stopped before its end.
+    Stopped(Stop),
+}
+
+/// The exit status of a failure.
+pub fn status(failure: &Failure) -> u8
+    ensures { result ≡ status_of failure.now }
 {
-    match stop {
-        Stop::Usage => 1,
-        Stop::Program { form: _, kind: _ } => 2,
-        Stop::Script { line: _, kind: _ } => 3,
-        Stop::Evaluation(_) => 4,
-        Stop::Read => 6,
-        Stop::Write => 7,
-        Stop::Memory(_) => 8,
+    match failure {
+        Failure::Usage => 1,
+        Failure::Stopped(Stop::Program { form: _, kind: _ }) => 2,
+        Failure::Stopped(Stop::Script { line: _, kind: _ }) => 3,
+        Failure::Stopped(Stop::Evaluation(_)) => 4,
+        Failure::Stopped(Stop::Read) => 6,
+        Failure::Stopped(Stop::Write) => 7,
+        Failure::Stopped(Stop::Memory(_)) => 8,
     }
 }
 
-/// Writes the line of a stop, as far as that goes. It asks for no memory, so that only a fault can cut the line.
-pub fn tell<E: Sink>(stop: &Stop, err: &mut E)
-    ensures { Tells (line_of stop.now) (E.written err.old) (E.written err.new)
+/// Writes the line of a failure, as far as that goes. It asks for no memory, so that only a fault can cut the line.
+pub fn tell<E: Sink>(failure: &Failure, err: &mut E)
+    ensures { WritesLine (failure_line failure.now) (E.written err.old) (E.written err.new)
         (E.faults err.old) (E.faults err.new) }
 {
-    let _ = write_line(stop, err);
+    let _ = write_line(failure, err);
+}
+
+/// Writes the line of a failure.
+#[tactic(auto, unfolding(crate::specs::Lines::failure_line))]
+fn write_line<E: Sink>(failure: &Failure, err: &mut E) -> Result<(), Failed>
+    ensures ok { OnOk result (Appends (E.written err.old) (E.written err.new) (failure_line failure.now)) }
+    ensures err { OnErr result (AppendsSome (E.written err.old) (E.written err.new) (failure_line failure.now)) }
+    ensures counts { Counts (IsErr result) (E.faults err.old) (E.faults err.new) }
+{
+    match failure {
+        Failure::Usage => write_all(err, b"usage\n"),
+        Failure::Stopped(stop) => write_stop(stop, err),
+    }
 }
 
 /// Writes the line of a stop.
-#[tactic(auto, unfolding(crate::specs::Lines::line_of))]
-fn write_line<E: Sink>(stop: &Stop, err: &mut E) -> Result<(), Failed>
-    ensures ok { OnOk result (Appends (E.written err.old) (E.written err.new) (line_of stop.now)) }
-    ensures err { OnErr result (AppendsSome (E.written err.old) (E.written err.new) (line_of stop.now)) }
+#[tactic(auto, unfolding(crate::specs::Lines::failure_line))]
+fn write_stop<E: Sink>(stop: &Stop, err: &mut E) -> Result<(), Failed>
+    ensures ok { OnOk result (Appends (E.written err.old) (E.written err.new) (failure_line (Failure.Stopped stop.now))) }
+    ensures err { OnErr result (AppendsSome (E.written err.old) (E.written err.new) (failure_line (Failure.Stopped stop.now))) }
     ensures counts { Counts (IsErr result) (E.faults err.old) (E.faults err.new) }
 {
     match stop {
@@ -53,7 +75,6 @@ fn write_line<E: Sink>(stop: &Stop, err: &mut E) -> Result<(), Failed>
             write_place(err, b"script refused at line ", *line, script_end(*kind))
         }
         Stop::Evaluation(time) => write_place(err, b"evaluation error at time ", *time, b"\n"),
-        Stop::Usage => write_all(err, b"usage\n"),
         Stop::Read => write_all(err, b"read fault\n"),
         Stop::Write => write_all(err, b"write fault\n"),
         Stop::Memory(_) => write_all(err, b"no memory\n"),

@@ -1,27 +1,28 @@
-ghost use Rattle.std.specs.Prelude.{◌≡◌, ◌≢◌, ◌≤◌, ◌↔◌, ◌⊎◌, ◌∷◌, ◌+◌, ℕ, List, [], length, take, None, Some, IfOk, IfErr, IfSome};
+ghost use Rattle.std.specs.Prelude.{◌≡◌, ◌≢◌, ◌≤◌, ◌↔◌, ◌⊎◌, ◌∷◌, ◌+◌, ℕ, List, [], length, None, Some, IfOk, IfErr, IfSome};
 ghost use Rattle.std.specs.Io.KnownBytes.{Appends};
 ghost use Rattle.fr_io.specs.Faults.{Rose, AnyRose, FailsAs, NoneFalls, NoneMoves};
 ghost use Rattle.fr_io.specs.Files.{AppendsSome, ReachesFront};
 ghost use Rattle.fr_io.specs.Shelves.{OthersUnread, OthersStay, Reads};
-ghost use Rattle.fr_show.specs.Course.{joined};
-ghost use Rattle.fr_show.specs.Ends.{EndsThere, AppendsWhole, RefusesProgram, RefusesScript, Errs};
+ghost use Rattle.fr_show.specs.Accepted.{program_front};
+ghost use Rattle.fr_show.specs.Course.{all_bytes};
+ghost use Rattle.fr_show.specs.Ends.{EndsThere, RefusesProgram, RefusesScript, Errs};
 ghost use Rattle.fr_cli.specs.Command.{asked, over_script, check as check_of, files_in};
-ghost use Rattle.fr_cli.specs.Command.{OnCommand, OnEachCommand, AllRead, FailsToRead, Answers, IsQuiet};
-ghost use Rattle.fr_cli.specs.Lines.{status_of_end, Stopped};
+ghost use Rattle.fr_cli.specs.Command.{OnCommand, WritesWhole, AllRead, FailsToRead, Answers, IsQuiet};
+ghost use Rattle.fr_cli.specs.Lines.{CallsFor, StandsFor};
 ghost use Rattle.fr_cli.specs.Obeyed.{IsUnread, Obeys};
-ghost use Rattle.fr_cli.specs.Told.{told};
+ghost use Rattle.fr_cli.specs.Requests.{command_in};
 
 use crate::command::{Request, request_of};
-use crate::telling::{status, tell};
+use crate::telling::{Failure, status, tell};
 use fr_io::{ReadStop, Shelf, Sink, read_up_to, write_all};
-use fr_run::afresh_session;
+use fr_run::{WholeEvaluator, run_session};
 use fr_show::{PROGRAM_LIMIT, Stop, accept};
 use std::alloc::Global;
 
 /// Reads a program's file, up to one byte past the limit.
 fn read_program<S: Shelf>(alloc: Global, program: &str, shelf: &mut S) -> Result<Vec<u8>, Stop>
     ensures text { IfOk result (λ text. IfSome (S.holds shelf.old program.now)
-        (λ file. text.items ≡ take 1048577 file)) }
+        (λ file. text.items ≡ program_front file)) }
     ensures reached { IfOk result (λ text. ReachesFront (S.reached shelf.old program.now)
         (S.reached shelf.new program.now) (length text.items)) }
     ensures err { IfErr result IsUnread }
@@ -43,7 +44,7 @@ fn run<S: Shelf, O: Sink>(
     script: &str,
     shelf: &mut S,
     out: &mut O,
-) -> Result<(), Stop>
+) -> Result<(), Failure>
     ensures { (word : List ℕ) → Obeys (Some (over_script word program.now script.now)) result
         (S.holds shelf.old) (S.holds shelf.new)
         (S.reached shelf.old) (S.reached shelf.new) (S.faults shelf.old) (S.faults shelf.new)
@@ -51,9 +52,12 @@ fn run<S: Shelf, O: Sink>(
 {
     let text = match read_program(alloc, program, shelf) {
         Ok(text) => text,
-        Err(stop) => return Err(stop),
+        Err(stop) => return Err(Failure::Stopped(stop)),
     };
-    afresh_session(alloc, &text, script, shelf, out)
+    match run_session::<WholeEvaluator, S, O>(alloc, &text, script, shelf, out) {
+        Ok(()) => Ok(()),
+        Err(stop) => Err(Failure::Stopped(stop)),
+    }
 }
 
 /// Reads and judges the program, and writes that it is accepted.
@@ -62,22 +66,22 @@ fn check<S: Shelf, O: Sink>(
     program: &str,
     shelf: &mut S,
     out: &mut O,
-) -> Result<(), Stop>
+) -> Result<(), Failure>
     ensures { Obeys (Some (check_of program.now)) result (S.holds shelf.old) (S.holds shelf.new)
         (S.reached shelf.old) (S.reached shelf.new) (S.faults shelf.old) (S.faults shelf.new)
         (O.written out.old) (O.written out.new) (O.faults out.old) (O.faults out.new) }
 {
     let text = match read_program(alloc, program, shelf) {
         Ok(text) => text,
-        Err(stop) => return Err(stop),
+        Err(stop) => return Err(Failure::Stopped(stop)),
     };
     match accept(alloc, &text) {
         Ok(_program) => {}
-        Err(stop) => return Err(stop.into_stop()),
+        Err(stop) => return Err(Failure::Stopped(stop.into_stop())),
     }
     match write_all(out, b"accepted\n") {
         Ok(()) => Ok(()),
-        Err(_) => Err(Stop::Write),
+        Err(_) => Err(Failure::Stopped(Stop::Write)),
     }
 }
 
@@ -87,8 +91,8 @@ fn fulfil<S: Shelf, O: Sink>(
     request: Request<'_>,
     shelf: &mut S,
     out: &mut O,
-) -> Result<(), Stop>
-    ensures { Obeys (Some (told request.entry)) result (S.holds shelf.old) (S.holds shelf.new)
+) -> Result<(), Failure>
+    ensures { Obeys (Some (command_in request.entry)) result (S.holds shelf.old) (S.holds shelf.new)
         (S.reached shelf.old) (S.reached shelf.new) (S.faults shelf.old) (S.faults shelf.new)
         (O.written out.old) (O.written out.new) (O.faults out.old) (O.faults out.new) }
 {
@@ -105,13 +109,13 @@ fn obey<S: Shelf, O: Sink>(
     words: &[String],
     shelf: &mut S,
     out: &mut O,
-) -> Result<(), Stop>
+) -> Result<(), Failure>
     ensures { Obeys (asked words.now) result (S.holds shelf.old) (S.holds shelf.new)
         (S.reached shelf.old) (S.reached shelf.new) (S.faults shelf.old) (S.faults shelf.new)
         (O.written out.old) (O.written out.new) (O.faults out.old) (O.faults out.new) }
 {
     match request_of(words) {
-        None => Err(Stop::Usage),
+        None => Err(Failure::Usage),
         Some(request) => fulfil(alloc, request, shelf, out),
     }
 }
@@ -153,12 +157,11 @@ pub fn frtime<S: Shelf, O: Sink, E: Sink>(
     ensures read_to_end { result ≡ 0 → AllRead (files_in (asked words.now)) (S.holds shelf.old)
         (S.reached shelf.old) (S.reached shelf.new) }
     ensures silent { result ≡ 0 → err.new ≡ err.old }
-    // Where no file that the words name and not `out` fails, the status is that of the course's own end, or there was no
-    // memory.
+    // Where no file that the words name and not `out` fails, the status is the one that the words and the files call for,
+    // or there was no memory.
     ensures complete { (AnyRose (files_in (asked words.now)) (S.faults shelf.old) (S.faults shelf.new) → ⊥) →
         (Rose (O.faults out.old) (O.faults out.new) → ⊥) →
-        OnCommand (asked words.now) (S.holds shelf.old) (λ c. result ≡ status_of_end c.stop)
-        ⊎ (result ≡ 8) }
+        CallsFor (asked words.now) (S.holds shelf.old) result ⊎ (result ≡ 8) }
 
     // The cause of each other status. Where the status isn't 6 no file's count moved, and where it isn't 7 not that
     // of `out`.
@@ -177,10 +180,10 @@ pub fn frtime<S: Shelf, O: Sink, E: Sink>(
     ensures answers { Answers (asked words.now) result }
 
     // What was written: the texts of a whole number of instants, and after a write fault some first bytes, but not all.
-    ensures whole_instants { result ≢ 7 → OnEachCommand (asked words.now) (S.holds shelf.old)
-        (λ c. AppendsWhole (O.written out.old) (O.written out.new) c.texts) }
+    ensures whole_instants { result ≢ 7 → WritesWhole (asked words.now) (S.holds shelf.old)
+        (O.written out.old) (O.written out.new) }
     ensures first_bytes { result ≡ 7 → OnCommand (asked words.now) (S.holds shelf.old)
-        (λ c. AppendsSome (O.written out.old) (O.written out.new) (joined c.texts)) }
+        (λ c. AppendsSome (O.written out.old) (O.written out.new) (all_bytes c.texts)) }
     // Where `check` stops it has written nothing, but for a write fault.
     ensures quiet { IsQuiet (asked words.now) → result ≢ 0 → result ≢ 7 →
         Appends (O.written out.old) (O.written out.new) [] }
@@ -195,17 +198,17 @@ pub fn frtime<S: Shelf, O: Sink, E: Sink>(
     ensures out_counts { O.faults out.old ≤ O.faults out.new }
     ensures err_counts { E.faults err.old ≤ E.faults err.new }
 
-    // Each status but 0 is that of a stop, which says of the course how it ends or what of it was written, and `err` got
-    // its line, or where it fails some first bytes of it.
-    ensures stopped { result ≢ 0 → Stopped result (asked words.now) (S.holds shelf.old)
+    // Each status but 0 is that of a failure, which says of the course how it ends or what of it was written, and `err`
+    // got its line, or where it fails some first bytes of it.
+    ensures stopped { result ≢ 0 → StandsFor result (asked words.now) (S.holds shelf.old)
         (O.written out.old) (O.written out.new) (E.written err.old) (E.written err.new)
         (E.faults err.old) (E.faults err.new) }
 {
     match obey(alloc, words, shelf, out) {
         Ok(()) => 0,
-        Err(stop) => {
-            tell(&stop, err);
-            status(&stop)
+        Err(failure) => {
+            tell(&failure, err);
+            status(&failure)
         }
     }
 }

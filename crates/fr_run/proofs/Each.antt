@@ -14,10 +14,9 @@ use Rattle.fr_meaning.specs.Evaluation.{Ev, eval}
 use Rattle.fr_meaning.specs.Cells.{child}
 use Rattle.fr_meaning.specs.Texts.{Shown, next_each}
 use Rattle.fr_meaning.specs.Afresh.{State, Instant, items, instant, latest, sources_at}
-use Rattle.fr_afresh.specs.declared.running.Afresh.{Afresh}
-use Rattle.fr_afresh.specs.Stands.{Leaves, program_of, shown_of}
 use Rattle.fr_show.specs.Output.{shows_of}
-use Rattle.fr_run.specs.Runs.{AreShowsOf, Wrote}
+use Rattle.fr_run.specs.Standing.{Standing, IsBehind, seen_of}
+use Rattle.fr_run.specs.Written.{AreShowsOf, Wrote}
 
 items_shown : (ev : Ev) (env : Env) (k : Kept) (i : ℕ) (is : List Item) → length (items ev env k i is).shown ≡ length (shows_of is)
 items_shown ev env k i [] = refl
@@ -32,23 +31,22 @@ instant_shown p s i =
     items_shown (eval (record { functions = p.functions; sources = sources }) 1) [] s.kept 0 p.body
 
 -- the shows stay as many
-pub next_length : (shows : List Shown) (vs : List Seen) → length (next_each shows vs) ≡ length shows
+next_length : (shows : List Shown) (vs : List Seen) → length (next_each shows vs) ≡ length shows
 next_length [] vs = refl
 next_length (s ∷ ss) [] = refl
 next_length (s ∷ ss) (v ∷ vs) = ap (λ (n : ℕ). suc n) (next_length ss vs)
 
--- what stands behind an instant of a program has a value for each of its shows
-pub one_each : (a : Afresh) (p : Program) (s : State) (i : Inputs) (shows : List Shown) → Leaves a p (instant p s i) → AreShowsOf shows p
-    → length (shown_of a) ≡ length shows
-one_each a p s i shows h k =
-    sym (length-map (shown_of a) (λ v. Ok v)) ∙ ap (λ (vs : List Seen). length vs) h.shown ∙ instant_shown p s i ∙ sym k
+-- behind an instant of a program there is a value for each of its shows
+pub one_each : (e : Standing) (p : Program) (s : State) (i : Inputs) (shows : List Shown) → IsBehind e p (instant p s i) → AreShowsOf shows p
+    → length e.shown ≡ length shows
+one_each e p s i shows h k =
+    sym (length-map e.shown (λ v. Ok v)) ∙ ap (λ (vs : List Seen). length vs) h.shown ∙ instant_shown p s i ∙ sym k
 
 -- behind an instant there is still one for each show
-pub shows_after : (a : Afresh) (p : Program) (n : Instant) (time : ℕ) (shows later : List Shown) (x y : Option (List ℕ)) → Wrote a p n time shows later x y → shows ≡ shows_of p.body
-    → AreShowsOf later (program_of a)
-shows_after a p n time shows later x y w same =
-    ap (λ (ss : List Shown). length ss) w.shows_are ∙ next_length shows n.evaluated.shown ∙ ap (λ (ss : List Shown). length ss) same
-    ∙ ap (λ (q : Program). length (shows_of q.body)) (sym w.leaves.program)
+pub shows_after : (e : Standing) (p : Program) (n : Instant) (time : ℕ) (shows later : List Shown) (x y : Option (List ℕ)) → Wrote e p n time shows later x y → AreShowsOf shows p
+    → AreShowsOf later e.program
+shows_after e p n time shows later x y w each =
+    ap (λ (ss : List Shown). length ss) w.shows_are ∙ next_length shows n.evaluated.shown ∙ each ∙ ap (λ (q : Program). length (shows_of q.body)) (sym w.behind.program)
 
 -- one more value
 pub one_more : (vs : List Now) (i : ℕ) (v : Now) → slice_get vs i ≡ Some v → take i vs ++ v ∷ [] ≡ take (i + 1) vs

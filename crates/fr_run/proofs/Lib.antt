@@ -1,3 +1,4 @@
+mod Results
 mod Each
 mod Readers
 mod Says

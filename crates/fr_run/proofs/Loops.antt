@@ -8,110 +8,123 @@ use Rattle.fr_script.specs.declared.reader.ScriptReader.{ScriptReader}
 use Rattle.fr_script.specs.Sources.{Named}
 use Rattle.fr_script.specs.Instants.{BadLine, bad_line}
 use Rattle.fr_meaning.specs.Texts.{Shown, instant_text, next_each}
-use Rattle.fr_meaning.specs.Afresh.{State, instant}
-use Rattle.fr_afresh.specs.declared.running.Afresh.{Afresh}
-use Rattle.fr_afresh.specs.Stands.{state_of}
+use Rattle.fr_meaning.specs.Afresh.{State, handed_on, instant}
+use Rattle.fr_show.specs.Runs.{runs_from}
 use Rattle.fr_show.specs.declared.stop.Stop.{Stop}
-use Rattle.fr_show.specs.declared.stop.Stop.TheVariants.{Usage, Script, Evaluation, Program as Refused, Read, Write, Memory}
-use Rattle.fr_show.specs.Course.{Course, joined, after, stopped}
-use Rattle.fr_show.specs.Ends.{EndsThere, StopSays}
-use Rattle.fr_show.specs.Output.{onward, over_instants, script_end}
-use Rattle.fr_show.proofs.Courses.{joined_append, after_after, appends_nothing, appends_one, ends_after, says_after, nothing_whole}
+use Rattle.fr_show.specs.declared.stop.Stop.TheVariants.{Script, Evaluation, Program as Refused, Read, Write, Memory}
+use Rattle.fr_show.specs.Course.{Course, all_bytes, after, stopped}
+use Rattle.fr_show.specs.Ends.{EndsThere, StopSays, extent_of, first_text}
+use Rattle.fr_show.specs.Output.{course_of, script_end}
+use Rattle.fr_show.proofs.Courses.{bytes_append, after_after, appends_nothing, appends_one, ends_after, writes_after, nothing_whole}
+use Rattle.fr_run.specs.Standing.{Standing}
 use Rattle.fr_run.specs.Scripts.{IsFed, ahead, Gives, EndsAt}
-use Rattle.fr_run.specs.Runs.{Wrote, course_behind}
-use Rattle.fr_run.proofs.Says.{onward_clean}
+use Rattle.fr_run.specs.Written.{Wrote, StopsIn, course_behind}
+use Rattle.fr_run.proofs.Says.{course_by_first}
 
--- these texts of a course over a script were written, and it goes on from where the reader and the program stand
-pub record SoFar (p : Program) (ss : List Named) (script : List ℕ) (course : Course) (reader : ScriptReader) (s : State) (shows : List Shown) (old new : Option (List ℕ)) : Type 0 where
+-- these texts of a course over a script were written, and it goes on from where the reader and the evaluator stand
+pub record SoFar (ss : List Named) (script : List ℕ) (course : Course) (reader : ScriptReader) (e : Standing) (shows : List Shown) (old new : Option (List ℕ)) : Type 0 where
   pub done : List (List ℕ)
   pub given : ℕ
   pub fed : IsFed reader ss script given
-  pub written : Appends old new (joined done)
-  pub rest : course ≡ after done (course_behind p ss script given s shows)
+  pub written : Appends old new (all_bytes done)
+  pub rest : course ≡ after done (course_behind e ss script given shows)
 
--- what a reader tells
-abbrev pub Tells : ScriptReader → ScriptReader → Option Inputs → Type 0
-Tells r q o = (ss : List Named) (script : List ℕ) (given : ℕ) → IsFed r ss script given → Gives o q ss script given
+-- what a reader's turn gives, wherever it stands
+abbrev pub GivesNext : ScriptReader → ScriptReader → Option Inputs → Type 0
+GivesNext r q o = (ss : List Named) (script : List ℕ) (given : ℕ) → IsFed r ss script given → Gives o q ss script given
 
-pub none_done : (p : Program) (ss : List Named) (script : List ℕ) (given : ℕ) (r : ScriptReader) (s : State) (shows : List Shown) (x : Option (List ℕ))
-    → IsFed r ss script given → SoFar p ss script (course_behind p ss script given s shows) r s shows x x
-none_done p ss script given r s shows x h = record { done = []; given = given; fed = h; written = appends_nothing x; rest = refl }
+pub none_done : (ss : List Named) (script : List ℕ) (given : ℕ) (r : ScriptReader) (e : Standing) (shows : List Shown) (x : Option (List ℕ))
+    → IsFed r ss script given → SoFar ss script (course_behind e ss script given shows) r e shows x x
+none_done ss script given r e shows x h = record { done = []; given = given; fed = h; written = appends_nothing x; rest = refl }
 
--- over the next instant
-course_next : (p : Program) (ss : List Named) (script : List ℕ) (given : ℕ) (s : State) (shows : List Shown) (i : Inputs) → ahead ss script given ≡ i ∷ ahead ss script (given + 1)
-    → course_behind p ss script given s shows ≡ onward i.time shows (instant p s i) (λ next later. course_behind p ss script (given + 1) next later)
-course_next p ss script given s shows i h = ap (λ (is : List Inputs). over_instants p (script_end (bad_line ss script true)) s shows is) h
-
--- the instant's text, and then the course behind it
-course_wrote : (p : Program) (ss : List Named) (script : List ℕ) (given : ℕ) (s : State) (shows later : List Shown) (i : Inputs) (a : Afresh) (y z : Option (List ℕ))
-    → ahead ss script given ≡ i ∷ ahead ss script (given + 1) → Wrote a p (instant p s i) i.time shows later y z
-    → course_behind p ss script given s shows
-    ≡ after (instant_text i.time shows (instant p s i).evaluated.shown ∷ []) (course_behind p ss script (given + 1) (state_of a) later)
-course_wrote p ss script given s shows later i a y z h w =
-    let n = instant p s i in
+-- an instant's text, and then the course behind it
+pub course_wrote : (k : ℕ) (end : Option Stop) (e next : Standing) (i : Inputs) (is : List Inputs) (shows later : List Shown) (y z : Option (List ℕ))
+    → Wrote next e.program (instant e.program e.state i) i.time shows later y z
+    → course_of end shows (runs_from k e.program e.state (i ∷ is))
+    ≡ after (instant_text i.time shows (instant e.program e.state i).evaluated.shown ∷ []) (course_of end later (runs_from (k + 1) next.program next.state is))
+course_wrote k end e next i is shows later y z w =
+    let n = instant e.program e.state i in
     let text = instant_text i.time shows n.evaluated.shown in
-    let state = ap (λ (t : State). after (text ∷ []) (course_behind p ss script (given + 1) t (next_each shows n.evaluated.shown))) (sym w.leaves.state) in
-    let shown = ap (λ (l : List Shown). after (text ∷ []) (course_behind p ss script (given + 1) (state_of a) l)) (sym w.shows_are) in
-    course_next p ss script given s shows i h ∙ onward_clean i.time shows n (λ next later. course_behind p ss script (given + 1) next later) w.leaves.clean ∙ state ∙ shown
+    let program = ap (λ (p : Program). after (text ∷ []) (course_of end (next_each shows n.evaluated.shown) (runs_from (k + 1) p (handed_on n) is))) (sym w.behind.program) in
+    let state = ap (λ (s : State). after (text ∷ []) (course_of end (next_each shows n.evaluated.shown) (runs_from (k + 1) next.program s is))) (sym w.behind.state) in
+    let shown = ap (λ (l : List Shown). after (text ∷ []) (course_of end l (runs_from (k + 1) next.program next.state is))) (sym w.shows_are) in
+    course_by_first k end e.program e.state i is shows None w.behind.clean ∙ program ∙ state ∙ shown
 
-pub one_done : (p : Program) (ss : List Named) (script : List ℕ) (course : Course) (r q : ScriptReader) (s : State) (shows later : List Shown) (i : Inputs) (a : Afresh) (x y z : Option (List ℕ))
-    → ((given : ℕ) → IsFed r ss script given → Gives (Some i) q ss script given) → SoFar p ss script course r s shows x y
-    → Wrote a p (instant p s i) i.time shows later y z → SoFar p ss script course q (state_of a) later x z
-one_done p ss script course r q s shows later i a x y z gives far w =
+-- over the instants that are ahead
+course_ahead : (e : Standing) (ss : List Named) (script : List ℕ) (given : ℕ) (shows : List Shown) (is : List Inputs) → ahead ss script given ≡ is
+    → course_behind e ss script given shows ≡ course_of (script_end (bad_line ss script true)) shows (runs_from (given + 1) e.program e.state is)
+course_ahead e ss script given shows is h = ap (λ (js : List Inputs). course_of (script_end (bad_line ss script true)) shows (runs_from (given + 1) e.program e.state js)) h
+
+pub one_done : (ss : List Named) (script : List ℕ) (course : Course) (r q : ScriptReader) (e next : Standing) (shows later : List Shown) (i : Inputs) (x y z : Option (List ℕ))
+    → ((given : ℕ) → IsFed r ss script given → Gives (Some i) q ss script given) → SoFar ss script course r e shows x y
+    → Wrote next e.program (instant e.program e.state i) i.time shows later y z → SoFar ss script course q next later x z
+one_done ss script course r q e next shows later i x y z gives far w =
     let g = gives far.given far.fed in
-    let text = instant_text i.time shows (instant p s i).evaluated.shown in
-    let behind = course_behind p ss script (far.given + 1) (state_of a) later in
-    let both = appends_more x y z (joined far.done) (joined (text ∷ [])) far.written (appends_one y z text w.written) in
+    let text = instant_text i.time shows (instant e.program e.state i).evaluated.shown in
+    let both = appends_more x y z (all_bytes far.done) (all_bytes (text ∷ [])) far.written (appends_one y z text w.written) in
+    let wrote = course_ahead e ss script far.given shows (i ∷ ahead ss script (far.given + 1)) g.0
+    ∙ course_wrote (far.given + 1) (script_end (bad_line ss script true)) e next i (ahead ss script (far.given + 1)) shows later y z w in
     record {
       done = far.done ++ text ∷ [];
       given = far.given + 1;
       fed = g.1;
-      written = subst (λ (b : List ℕ). Appends x z b) (sym (joined_append far.done (text ∷ []))) both;
-      rest = far.rest ∙ ap (λ (c : Course). after far.done c) (course_wrote p ss script far.given s shows later i a y z g.0 w) ∙ sym (after_after far.done (text ∷ []) behind);
+      written = subst (λ (b : List ℕ). Appends x z b) (sym (bytes_append far.done (text ∷ []))) both;
+      rest = far.rest ∙ ap (λ (c : Course). after far.done c) wrote ∙ sym (after_after far.done (text ∷ []) (course_behind next ss script (far.given + 1) later));
     }
 
+-- nothing is ahead, and the script ends so
+course_ended : (end : Option Stop) (e : Standing) (ss : List Named) (script : List ℕ) (given : ℕ) (shows : List Shown)
+    → ahead ss script given ≡ [] → script_end (bad_line ss script true) ≡ end → course_behind e ss script given shows ≡ stopped end
+course_ended end e ss script given shows none h = course_ahead e ss script given shows [] none ∙ ap (λ (o : Option Stop). stopped o) h
+
 -- the script's end is the course's
-pub all_done : (p : Program) (ss : List Named) (script : List ℕ) (course : Course) (r q : ScriptReader) (s : State) (shows : List Shown) (x y : Option (List ℕ))
-    → ((given : ℕ) → IsFed r ss script given → Gives None q ss script given) → SoFar p ss script course r s shows x y → EndsThere None course x y
-all_done p ss script course r q s shows x y gives far =
+pub all_done : (ss : List Named) (script : List ℕ) (course : Course) (r q : ScriptReader) (e : Standing) (shows : List Shown) (x y : Option (List ℕ))
+    → ((given : ℕ) → IsFed r ss script given → Gives None q ss script given) → SoFar ss script course r e shows x y → EndsThere None course x y
+all_done ss script course r q e shows x y gives far =
     let g = gives far.given far.fed in
-    let is : course_behind p ss script far.given s shows ≡ stopped None =
-    ap (λ (is : List Inputs). over_instants p (script_end (bad_line ss script true)) s shows is) g.0 ∙ ap (λ (b : Option BadLine). stopped (script_end b)) g.1 in
+    let is = course_ended None e ss script far.given shows g.0 (ap (λ (b : Option BadLine). script_end b) g.1) in
     subst (λ (c : Course). EndsThere None c x y) (sym (far.rest ∙ ap (λ (c : Course). after far.done c) is)) (ends_after None far.done (stopped None) x y y far.written (refl, appends_nothing y))
 
-ends_bad : (other : Stop) (p : Program) (ss : List Named) (script : List ℕ) (given : ℕ) (s : State) (shows : List Shown) (x : Option (List ℕ))
-    → (ahead ss script given ≡ []) × (script_end (bad_line ss script true) ≡ Some other) → EndsThere (Some other) (course_behind p ss script given s shows) x x
-ends_bad other p ss script given s shows x h =
-    let is : course_behind p ss script given s shows ≡ stopped (Some other) =
-    ap (λ (is : List Inputs). over_instants p (script_end (bad_line ss script true)) s shows is) h.0 ∙ ap (λ (e : Option Stop). stopped e) h.1 in
-    subst (λ (c : Course). EndsThere (Some other) c x x) (sym is) (refl, appends_nothing x)
-
--- a bad line is no write fault
+-- no script ends with a write fault
 no_write : (b : Option BadLine) → script_end b ≡ Some Write → ⊥
-no_write None e = cc
-no_write (Some b) e = cc
+no_write None h = cc
+no_write (Some b) h = cc
 
-ends_says : (other : Stop) (p : Program) (ss : List Named) (script : List ℕ) (given : ℕ) (s : State) (shows : List Shown) (x : Option (List ℕ))
-    → EndsAt other ss script given → StopSays other (course_behind p ss script given s shows) x x
-ends_says Usage p ss script given s shows x h = ends_bad Usage p ss script given s shows x h
-ends_says (Refused f k) p ss script given s shows x h = ends_bad (Refused f k) p ss script given s shows x h
-ends_says (Script n k) p ss script given s shows x h = ends_bad (Script n k) p ss script given s shows x h
-ends_says (Evaluation n) p ss script given s shows x h = ends_bad (Evaluation n) p ss script given s shows x h
-ends_says Read p ss script given s shows x h = nothing_whole _ x
-ends_says Write p ss script given s shows x h = absurd (no_write (bad_line ss script true) h.1)
-ends_says (Memory e) p ss script given s shows x h = nothing_whole _ x
+ends_bad : (other : Stop) (e : Standing) (ss : List Named) (script : List ℕ) (given : ℕ) (shows : List Shown) (x : Option (List ℕ))
+    → (ahead ss script given ≡ []) × (script_end (bad_line ss script true) ≡ Some other) → EndsThere (Some other) (course_behind e ss script given shows) x x
+ends_bad other e ss script given shows x h =
+    subst (λ (c : Course). EndsThere (Some other) c x x) (sym (course_ended (Some other) e ss script given shows h.0 h.1)) (refl, appends_nothing x)
+
+ends_says : (other : Stop) (e : Standing) (ss : List Named) (script : List ℕ) (given : ℕ) (shows : List Shown) (x : Option (List ℕ))
+    → EndsAt other ss script given → StopSays other (course_behind e ss script given shows) x x
+ends_says Read e ss script given shows x h = nothing_whole _ x
+ends_says Write e ss script given shows x h = absurd (no_write (bad_line ss script true) h.1)
+ends_says (Memory m) e ss script given shows x h = nothing_whole _ x
+ends_says other e ss script given shows x h = ends_bad other e ss script given shows x h
+
+-- only a read fault tells of the first text
+only_read : (stop : Stop) → (stop ≡ Read → ⊥) → extent_of stop ≡ first_text → ⊥
+only_read Read unread h = unread refl
+only_read other unread h = cc
+
+-- behind what was written, a stop but for a read fault says of the course what it says of the rest
+rest_says : (other : Stop) (ss : List Named) (script : List ℕ) (course : Course) (r : ScriptReader) (e : Standing) (shows : List Shown) (x y z : Option (List ℕ)) → (other ≡ Read → ⊥)
+    → (far : SoFar ss script course r e shows x y) → StopSays other (course_behind e ss script far.given shows) y z → StopSays other course x z
+rest_says other ss script course r e shows x y z unread far says =
+    subst (λ (c : Course). StopSays other c x z) (sym far.rest) (writes_after (extent_of other) other far.done (course_behind e ss script far.given shows) x y z far.written (only_read other unread) says)
 
 -- a stop that the reader told
-pub ends_here : (other : Stop) (p : Program) (ss : List Named) (script : List ℕ) (course : Course) (r : ScriptReader) (s : State) (shows : List Shown) (x y : Option (List ℕ)) → (other ≡ Read → ⊥)
-    → ((given : ℕ) → IsFed r ss script given → EndsAt other ss script given) → SoFar p ss script course r s shows x y → StopSays other course x y
-ends_here other p ss script course r s shows x y unread ends far =
-    subst (λ (c : Course). StopSays other c x y) (sym far.rest) (says_after other far.done _ x y y far.written unread (ends_says other p ss script far.given s shows y (ends far.given far.fed)))
+pub ends_here : (other : Stop) (ss : List Named) (script : List ℕ) (course : Course) (r : ScriptReader) (e : Standing) (shows : List Shown) (x y : Option (List ℕ)) → (other ≡ Read → ⊥)
+    → ((given : ℕ) → IsFed r ss script given → EndsAt other ss script given) → SoFar ss script course r e shows x y → StopSays other course x y
+ends_here other ss script course r e shows x y unread ends far =
+    rest_says other ss script course r e shows x y y unread far (ends_says other e ss script far.given shows y (ends far.given far.fed))
 
 -- a stop within an instant
-pub stops_here : (other : Stop) (p : Program) (ss : List Named) (script : List ℕ) (course : Course) (r q : ScriptReader) (s : State) (shows : List Shown) (i : Inputs) (x y z : Option (List ℕ)) → (other ≡ Read → ⊥)
-    → ((given : ℕ) → IsFed r ss script given → Gives (Some i) q ss script given) → SoFar p ss script course r s shows x y
-    → ((rest : State → List Shown → Course) → StopSays other (onward i.time shows (instant p s i) rest) y z) → StopSays other course x z
-stops_here other p ss script course r q s shows i x y z unread gives far says =
-    let g = gives far.given far.fed in
-    let says1 = subst (λ (c : Course). StopSays other c y z) (sym (course_next p ss script far.given s shows i g.0)) (says (λ next later. course_behind p ss script (far.given + 1) next later)) in
-    subst (λ (c : Course). StopSays other c x z) (sym far.rest) (says_after other far.done _ x y z far.written unread says1)
+pub stops_here : (other : Stop) (ss : List Named) (script : List ℕ) (course : Course) (r q : ScriptReader) (e : Standing) (shows : List Shown) (i : Inputs) (x y z : Option (List ℕ)) → (other ≡ Read → ⊥)
+    → ((given : ℕ) → IsFed r ss script given → Gives (Some i) q ss script given) → SoFar ss script course r e shows x y
+    → StopsIn other e.program e.state i shows y z → StopSays other course x z
+stops_here other ss script course r q e shows i x y z unread gives far says =
+    let next = ahead ss script (far.given + 1) in
+    let is = course_ahead e ss script far.given shows (i ∷ next) (gives far.given far.fed).0 in
+    rest_says other ss script course r e shows x y z unread far
+    (subst (λ (c : Course). StopSays other c y z) (sym is) (says (far.given + 1) (script_end (bad_line ss script true)) next))

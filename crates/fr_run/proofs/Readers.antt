@@ -14,8 +14,8 @@ use Rattle.fr_show.specs.Output.{script_end}
 use Rattle.fr_run.specs.Scripts.{IsFed, ahead, Gives, EndsAt}
 
 -- what a turn tells
-abbrev pub Tells : ScriptReader → ScriptReader → Turn → Type 0
-Tells r q t = (ss : List Named) (fed : List ℕ) (given : ℕ) → Stands r ss fed given → TurnSays t ss fed (is_told r) given × Stands q ss fed (given_after t given)
+abbrev pub TurnTells : ScriptReader → ScriptReader → Turn → Type 0
+TurnTells r q t = (ss : List Named) (fed : List ℕ) (given : ℕ) → Stands r ss fed given → TurnSays t ss fed (is_told r) given × Stands q ss fed (given_after t given)
 
 -- a reader that gave an instant stands behind it
 pub gives_instant : (r q : ScriptReader) (i : Inputs) → is_told q ≡ is_told r

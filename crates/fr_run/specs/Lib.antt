@@ -1,3 +1,5 @@
-pub mod Stops
+pub mod Standing
+pub mod Whole
 pub mod Scripts
-pub mod Runs
+pub mod Written
+pub mod Session

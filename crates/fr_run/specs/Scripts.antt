@@ -1,5 +1,5 @@
 -- What of a script is ahead of a reader that was given all of it.
-use Rattle.std.specs.Prelude.{ℕ, ◌+◌, ◌<◌, ◌≡◌, true, false, List, [], ◌∷◌, ◌++◌, length, drop, Option, Some, None}
+use Rattle.std.specs.Prelude.{ℕ, ◌+◌, ◌<◌, ◌≡◌, true, false, List, [], ◌∷◌, ◌++◌, length, drop, take, Option, Some, None}
 use Rattle.fr_core.specs.declared.inputs.Inputs.{Inputs}
 use Rattle.fr_script.specs.declared.reader.ScriptReader.{ScriptReader}
 use Rattle.fr_script.specs.Sources.{Named}
@@ -9,6 +9,18 @@ use Rattle.fr_show.specs.declared.stop.Stop.{Stop}
 use Rattle.fr_show.specs.declared.stop.Stop.TheVariants as stop
 use Rattle.fr_show.specs.Output.{script_end}
 
+-- the most bytes of a script
+abbrev pub script_limit : ℕ
+script_limit = 1099511627776
+
+-- the greatest time of an instant, which is the greatest integer of the language
+abbrev pub greatest_time : ℕ
+greatest_time = 9223372036854775807
+
+-- as much of a script's file as is read: its first bytes, up to one more than a script may have
+abbrev pub script_front : List ℕ → List ℕ
+script_front file = take (script_limit + 1) file
+
 -- a reader was fed a script to its end, or to more bytes than a script may have, and has given so many of its instants
 pub record IsFed (r : ScriptReader) (ss : List Named) (script : List ℕ) (given : ℕ) : Type 0 where
   pub fed : List ℕ
@@ -16,7 +28,7 @@ pub record IsFed (r : ScriptReader) (ss : List Named) (script : List ℕ) (given
   pub parts : script ≡ fed ++ behind
   pub stands : Stands r ss fed given
   pub follows : MayFollow (is_told r) behind true
-  pub enough : is_told r ≡ false → 1099511627776 < length fed
+  pub enough : is_told r ≡ false → script_limit < length fed
 
 -- there is a script that it was fed so
 abbrev pub IsFedSome : ScriptReader → Type 0

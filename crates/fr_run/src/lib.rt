@@ -1,7 +1,11 @@
 //! Runs a program over a script: instant by instant, each written once it is whole.
 #![tactic(auto)]
 
+mod evaluator;
 mod session;
 mod turns;
+mod whole;
 
-pub use session::afresh_session;
+pub use evaluator::{Evaluator, InstantStop};
+pub use session::run_session;
+pub use whole::WholeEvaluator;

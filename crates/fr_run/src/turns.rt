@@ -1,9 +1,9 @@
 //! The instants of a script that was read whole.
 
-ghost use Rattle.std.specs.Prelude.{◌≡◌, ◌<◌, ℕ, List, take, IfOk, IfErr, IfSome, IsErrOf};
+ghost use Rattle.std.specs.Prelude.{◌≡◌, ◌<◌, ℕ, List, IfOk, IfErr, IfSome, IsErrOf};
 ghost use Rattle.fr_script.specs.Sources.{Named, sources};
 ghost use Rattle.fr_script.specs.Stands.{left};
-ghost use Rattle.fr_run.specs.Scripts.{IsFed, Gives, EndsAt};
+ghost use Rattle.fr_run.specs.Scripts.{IsFed, Gives, EndsAt, script_front};
 
 use fr_core::{Inputs, Program};
 use fr_script::{LineKind, ScriptReader, Turn};
@@ -19,7 +19,7 @@ pub(crate) fn reader_of(
     program: &Program,
     bytes: &[u8],
 ) -> Result<ScriptReader, AllocError>
-    ensures file { IfOk result (λ reader. (file : List ℕ) → bytes.now ≡ take 1099511627777 file → IsFed reader (sources program.now) file 0) }
+    ensures file { IfOk result (λ reader. (file : List ℕ) → bytes.now ≡ script_front file → IsFed reader (sources program.now) file 0) }
     ensures fed { IfOk result (λ reader. IsFed reader (sources program.now) bytes.now 0) }
 {
     let mut reader = ScriptReader::new(alloc, program)?;
@@ -37,7 +37,6 @@ pub(crate) fn next_instant(reader: &mut ScriptReader) -> Result<Option<Inputs>, 
     ensures falls { IfOk result (λ next. IfSome next (λ _. left reader.new < left reader.old)) }
     ensures no_read { IsErrOf result Stop.Read → ⊥ }
     ensures no_write { IsErrOf result Stop.Write → ⊥ }
-    ensures no_usage { IsErrOf result Stop.Usage → ⊥ }
 {
     match reader.next() {
         Ok(Turn::Instant(inputs)) => Ok(Some(inputs)),

@@ -6,7 +6,7 @@ ghost use Rattle.fr_script.specs.Lines.{line_end};
 ghost use Rattle.fr_script.specs.Sources.{Named, sources};
 ghost use Rattle.fr_script.specs.Kinds.{says};
 ghost use Rattle.fr_script.specs.Stands.{Stands, TurnSays, given_after, is_told, left, Falls};
-ghost use Rattle.fr_script.specs.Steps.{turn_of, behind_line, Steps, TurnGoes, StepFalls};
+ghost use Rattle.fr_script.specs.Steps.{turn_of, behind_line, Onward, Steps, TurnGoes, StepFalls};
 
 use crate::progress::Progress;
 use crate::rest::Rest;
@@ -173,7 +173,8 @@ impl ScriptReader {
     }
 
     /// Gives the next instant; or, where all whole instants were given, the bad line, the end, or `More` where the script
-    /// may go on. After want of memory the reader stands where it stood.
+    /// may go on. After want of memory the same is ahead of the reader as before, whatever follows: it may have passed lines
+    /// that make no instant whole, but no later call tells it from the reader that it was.
     ///
     /// An instant leaves less before the reader and no turn leaves more, so that a caller who takes turns comes to an end.
     pub fn next(&mut self) -> Result<Turn, AllocError>
@@ -182,6 +183,7 @@ impl ScriptReader {
         ensures falls { IfOk result (λ t. Falls t (left self.old) (left self.new)) }
         ensures told { is_told self.new ≡ is_told self.old }
         ensures err { OnErr result ((ss : List Named) (fed : List ℕ) (given : ℕ) → Stands self.old ss fed given → Stands self.new ss fed given) }
+        ensures same { OnErr result (Onward self.old None self.new) }
     {
         'lines: loop {
             match self.step() {

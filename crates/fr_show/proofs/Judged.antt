@@ -3,10 +3,9 @@ use Rattle.std.proofs.Common.{◌≡◌, ℕ, List, take, sym, subst, None, Some
 use Rattle.fr_io.specs.Files.{ReachesFront}
 use Rattle.fr_core.specs.declared.program.Program.{Program as Core}
 use Rattle.fr_show.specs.declared.stop.Stop.{Stop}
-use Rattle.fr_show.specs.declared.stop.Stop.TheVariants.{Usage, Script, Evaluation, Program, Read, Write, Memory}
 use Rattle.fr_show.specs.Accepted.{Verdict, IsProgram, IsVerdict, OnJudged, OnEachJudged}
 use Rattle.fr_show.specs.Course.{Course}
-use Rattle.fr_show.specs.Ends.{StopSays, SaysOn}
+use Rattle.fr_show.specs.Ends.{Extent, own_end, whole_texts, first_text, first_bytes, extent_of, StopSays, OnOrEach, SaysOn}
 use Rattle.fr_show.proofs.Verdicts.{judged_front, front_judged, verdict_is_one, whole_front}
 
 pub any_course : (o : Option Course) (F : Course → Type 0) → ((c : Course) → F c) → IfSome o F
@@ -38,16 +37,18 @@ read_accepted (Some file) bytes p before now h is k =
     let short = subst (λ (b : List ℕ). length b ≤ 1048576) h is.read.short in
     subst (λ (b : List ℕ). ReachesFront before now (length b)) (h ∙ whole_front 1048576 file short) k
 
+-- what holds of the course of the verdict on a text
+judged_or_each : (e : Extent) (course : Verdict → Option Course) (bytes : List ℕ) (v : Verdict) (F : Course → Type 0) → IsVerdict bytes v → IfSome (course v) F
+    → OnOrEach e (OnJudged course (Some bytes)) (OnEachJudged course (Some bytes)) F
+judged_or_each own_end course bytes v F is k = (v, is, k)
+judged_or_each whole_texts course bytes v F is k = each_of course (Some bytes) F (v, is, k)
+judged_or_each first_text course bytes v F is k = each_of course (Some bytes) F (v, is, k)
+judged_or_each first_bytes course bytes v F is k = (v, is, k)
+
 -- a stop that says so of the course of the verdict on a text
 pub says_judged : (course : Verdict → Option Course) (bytes : List ℕ) (v : Verdict) (stop : Stop) (x y : Option (List ℕ)) → IsVerdict bytes v → IfSome (course v) (λ c. StopSays stop c x y)
     → SaysOn stop (OnJudged course (Some bytes)) (OnEachJudged course (Some bytes)) x y
-says_judged course bytes v Usage x y is k = (v, is, k)
-says_judged course bytes v (Program f d) x y is k = (v, is, k)
-says_judged course bytes v (Script n d) x y is k = (v, is, k)
-says_judged course bytes v (Evaluation t) x y is k = (v, is, k)
-says_judged course bytes v Read x y is k = each_of course (Some bytes) (λ c. StopSays Read c x y) (v, is, k)
-says_judged course bytes v Write x y is k = (v, is, k)
-says_judged course bytes v (Memory e) x y is k = each_of course (Some bytes) (λ c. StopSays (Memory e) c x y) (v, is, k)
+says_judged course bytes v stop x y is k = judged_or_each (extent_of stop) course bytes v (λ c. StopSays stop c x y) is k
 
 -- what holds on the front of a file that was judged holds on the file
 pub judged_of_front : (course : Verdict → Option Course) (held : Option (List ℕ)) (bytes : List ℕ) (F : Course → Type 0)
@@ -65,10 +66,10 @@ each_of_front course (Some file) bytes F h k = λ v is. k v (subst (λ b. IsVerd
 pub says_of_front : (course : Verdict → Option Course) (held : Option (List ℕ)) (bytes : List ℕ) (stop : Stop) (x y : Option (List ℕ))
     → IfSome held (λ file. bytes ≡ take 1048577 file) → SaysOn stop (OnJudged course (Some bytes)) (OnEachJudged course (Some bytes)) x y
     → SaysOn stop (OnJudged course held) (OnEachJudged course held) x y
-says_of_front course held bytes Usage x y h k = judged_of_front course held bytes (λ c. StopSays Usage c x y) h k
-says_of_front course held bytes (Program f d) x y h k = judged_of_front course held bytes (λ c. StopSays (Program f d) c x y) h k
-says_of_front course held bytes (Script n d) x y h k = judged_of_front course held bytes (λ c. StopSays (Script n d) c x y) h k
-says_of_front course held bytes (Evaluation t) x y h k = judged_of_front course held bytes (λ c. StopSays (Evaluation t) c x y) h k
-says_of_front course held bytes Read x y h k = each_of_front course held bytes (λ c. StopSays Read c x y) h k
-says_of_front course held bytes Write x y h k = judged_of_front course held bytes (λ c. StopSays Write c x y) h k
-says_of_front course held bytes (Memory e) x y h k = each_of_front course held bytes (λ c. StopSays (Memory e) c x y) h k
+says_of_front course held bytes stop x y h k = by (extent_of stop) (λ c. StopSays stop c x y) k
+  where
+    by : (e : Extent) (F : Course → Type 0) → OnOrEach e (OnJudged course (Some bytes)) (OnEachJudged course (Some bytes)) F → OnOrEach e (OnJudged course held) (OnEachJudged course held) F
+    by own_end F s = judged_of_front course held bytes F h s
+    by whole_texts F s = each_of_front course held bytes F h s
+    by first_text F s = each_of_front course held bytes F h s
+    by first_bytes F s = judged_of_front course held bytes F h s

@@ -1,5 +1,6 @@
 -- Which texts are accepted as programs.
-use Rattle.std.specs.Prelude.{ℕ, ◌≡◌, ◌≤◌, ◌<◌, List, length, Option, Some, None, Result, Ok, Err, IfSome}
+use Rattle.std.specs.Prelude.{ℕ, ◌+◌, ◌*◌, ◌≡◌, ◌≤◌, ◌<◌, List, length, take, map, Option, Some, None, Result, Ok, Err, IfSome}
+use Rattle.fr_value.specs.Data.{datum_size, total}
 use Rattle.fr_value.specs.Grammar.{Reads, IsRefused}
 use Rattle.fr_value.specs.declared.value.Datum.{Datum}
 use Rattle.fr_core.specs.declared.program.Program.{Program}
@@ -10,9 +11,21 @@ use Rattle.fr_show.specs.declared.stop.ProgramKind.{ProgramKind}
 use Rattle.fr_show.specs.declared.stop.ProgramKind.TheVariants as kind
 use Rattle.fr_show.specs.Course.{Course}
 
+-- the greatest length of a program in bytes
+abbrev pub program_limit : ℕ
+program_limit = 1048576
+
+-- as much of a program's file as is read: its first bytes, up to one more than a program may have
+abbrev pub program_front : List ℕ → List ℕ
+program_front file = take (program_limit + 1) file
+
+-- the sizes of the forms of a text come to at most 8 for each byte that a program may have
+abbrev pub AreSmall : List Datum → Type 0
+AreSmall forms = total (map datum_size forms) ≤ 8 * program_limit
+
 -- the text isn't too long, and reads as these forms
 pub record IsForms (bytes : List ℕ) (forms : List Datum) : Type 0 where
-  pub short : length bytes ≤ 1048576
+  pub short : length bytes ≤ program_limit
   pub reads : Reads bytes forms
 
 -- the text is accepted as this program
@@ -55,8 +68,8 @@ cause_of kind.Nesting = refused form_kind.Nesting
 
 -- a text is refused for its length, else at the form from which on it doesn't read, else as its forms are
 abbrev pub IsRefusedFor : List ℕ → ℕ → Cause → Type 0
-IsRefusedFor bytes form long = (form ≡ 0) × (1048576 < length bytes)
-IsRefusedFor bytes form unread = (length bytes ≤ 1048576) × IsRefused bytes form
+IsRefusedFor bytes form long = (form ≡ 0) × (program_limit < length bytes)
+IsRefusedFor bytes form unread = (length bytes ≤ program_limit) × IsRefused bytes form
 IsRefusedFor bytes form (refused k) = IsNoProgram bytes form k
 
 abbrev pub IsRefusedAs : List ℕ → ℕ → ProgramKind → Type 0

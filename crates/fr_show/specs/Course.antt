@@ -8,9 +8,9 @@ pub record Course : Type 0 where
   pub stop : Option Stop
 
 -- all bytes of the texts
-abbrev pub joined : List (List ℕ) → List ℕ
-joined [] = []
-joined (t ∷ ts) = t ++ joined ts
+abbrev pub all_bytes : List (List ℕ) → List ℕ
+all_bytes [] = []
+all_bytes (t ∷ ts) = t ++ all_bytes ts
 
 -- no text any more
 abbrev pub stopped : Option Stop → Course

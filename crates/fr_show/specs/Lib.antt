@@ -2,5 +2,6 @@ pub mod Course
 pub mod Accepted
 pub mod Stops
 pub mod Ends
+pub mod Runs
 pub mod Output
 pub mod Shows

@@ -20,9 +20,9 @@ kind_of form_kind.Nesting = kind.Nesting
 kind_of form_kind.Handler = kind.Handler
 
 -- a refusal is the text's verdict; want of memory tells nothing of the text
-abbrev pub Tells : List ℕ → AcceptStop → Type 0
-Tells bytes (Memory e) = Unit {0}
-Tells bytes (Refused form k) = IsVerdict bytes (Err (record { form = form; kind = k }))
+abbrev pub Explains : List ℕ → AcceptStop → Type 0
+Explains bytes (Memory e) = Unit {0}
+Explains bytes (Refused form k) = IsVerdict bytes (Err (record { form = form; kind = k }))
 
 -- the stop of a command whose program isn't accepted
 abbrev pub unaccepted : AcceptStop → Stop

@@ -1,8 +1,8 @@
-ghost use Rattle.std.specs.Prelude.{◌≡◌, ◌≢◌, ◌≤◌, ◌*◌, length, map, IfOk, IfErr};
-ghost use Rattle.fr_value.specs.Data.{data_of, datum_size, total};
+ghost use Rattle.std.specs.Prelude.{◌≡◌, ◌≢◌, IfOk, IfErr};
+ghost use Rattle.fr_value.specs.Data.{data_of};
 ghost use Rattle.fr_core.specs.WellFormed.{IsWellFormed};
-ghost use Rattle.fr_show.specs.Accepted.{IsForms, IsProgram, IsVerdict};
-ghost use Rattle.fr_show.specs.Stops.{Tells, kind_of, unaccepted};
+ghost use Rattle.fr_show.specs.Accepted.{IsForms, AreSmall, IsProgram};
+ghost use Rattle.fr_show.specs.Stops.{Explains, kind_of, unaccepted};
 ghost use Rattle.fr_show.specs.declared.acceptance.AcceptStop.TheVariants as AcceptStop;
 ghost use Rattle.fr_show.specs.declared.stop.Stop.TheVariants as Stop;
 
@@ -42,7 +42,6 @@ impl AcceptStop {
         ensures value { result ≡ unaccepted self }
         ensures no_read { result ≢ Stop.Read }
         ensures no_write { result ≢ Stop.Write }
-        ensures no_usage { result ≢ Stop.Usage }
     {
         match self {
             AcceptStop::Memory(e) => Stop::Memory(e),
@@ -59,7 +58,7 @@ impl AcceptStop {
 pub fn accept(alloc: Global, bytes: &[u8]) -> Result<Program, AcceptStop>
     ensures accepted { IfOk result (IsProgram bytes.now) }
     ensures well_formed { IfOk result IsWellFormed }
-    ensures refused { IfErr result (Tells bytes.now) }
+    ensures refused { IfErr result (Explains bytes.now) }
 {
     let forms = match read_forms(alloc, bytes) {
         Ok(forms) => forms,
@@ -71,8 +70,8 @@ pub fn accept(alloc: Global, bytes: &[u8]) -> Result<Program, AcceptStop>
 /// The forms that a text of at most 1,048,576 bytes reads as, or why it is refused before its forms are looked at.
 pub fn read_forms(alloc: Global, bytes: &[u8]) -> Result<Vec<Value>, AcceptStop>
     ensures read { IfOk result (λ forms. IsForms bytes.now (data_of forms.items)) }
-    ensures small { IfOk result (λ forms. total (map datum_size (data_of forms.items)) ≤ 8388608) }
-    ensures refused { IfErr result (Tells bytes.now) }
+    ensures small { IfOk result (λ forms. AreSmall (data_of forms.items)) }
+    ensures refused { IfErr result (Explains bytes.now) }
 {
     if bytes.len() > PROGRAM_LIMIT {
         return Err(refusal(0, ProgramKind::Length));
@@ -87,10 +86,10 @@ pub fn read_forms(alloc: Global, bytes: &[u8]) -> Result<Vec<Value>, AcceptStop>
 /// The program that the forms of a text are.
 pub fn program_of(alloc: Global, bytes: &[u8], forms: &[Value]) -> Result<Program, AcceptStop>
     requires read { IsForms bytes.now (data_of forms.now) }
-    requires small { total (map datum_size (data_of forms.now)) ≤ 8388608 }
+    requires small { AreSmall (data_of forms.now) }
     ensures accepted { IfOk result (IsProgram bytes.now) }
     ensures well_formed { IfOk result IsWellFormed }
-    ensures refused { IfErr result (Tells bytes.now) }
+    ensures refused { IfErr result (Explains bytes.now) }
 {
     match expand(alloc, forms) {
         Ok(program) => Ok(program),

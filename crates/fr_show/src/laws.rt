@@ -1,5 +1,5 @@
-ghost use Rattle.std.specs.Prelude.{◌≡◌, ℕ, List, take};
-ghost use Rattle.fr_show.specs.Accepted.{Verdict, IsVerdict};
+ghost use Rattle.std.specs.Prelude.{◌≡◌, ℕ, List};
+ghost use Rattle.fr_show.specs.Accepted.{Verdict, IsVerdict, program_front};
 
 /// A text is judged in one way only: as one program, or as refused at one form with one kind.
 #[tactic(auto, using(crate::proofs::Verdicts::verdict_is_one))]
@@ -10,5 +10,5 @@ pub fn verdict_is_one()
 /// The first 1,048,577 bytes of a text decide how it is judged, so nothing behind them has to be read.
 #[tactic(auto, using(crate::proofs::Verdicts::judged_front))]
 pub fn front_decides()
-    ensures { (bytes : List ℕ) (v : Verdict) → IsVerdict (take 1048577 bytes) v → IsVerdict bytes v }
+    ensures { (bytes : List ℕ) (v : Verdict) → IsVerdict (program_front bytes) v → IsVerdict bytes v }
 {}

@@ -25,8 +25,6 @@ pub enum ProgramKind {
 /// Why a command stopped before its end.
 #[derive(Debug, Drop)]
 pub enum Stop {
-    /// The words are no command.
-    Usage,
     /// The program is refused at this form, counted from 1; form 0 is the text as a whole.
     Program { form: u32, kind: ProgramKind },
     /// The script is refused at this line, counted from 1.

@@ -1,6 +1,6 @@
 use Rattle.std.proofs.Common.{List, ℕ, subst, rules}
 use Rattle.fr_show.specs.Accepted.{IsProgram}
-use Rattle.fr_show.specs.Stops.{Tells}
+use Rattle.fr_show.specs.Stops.{Explains}
 use Rattle.fr_cli.specs.Command.{check}
 use Rattle.fr_cli.proofs.Runs.{unread, told_refused, told_whole, told_cut}
 use Rattle.fr_cli.proofs.top.check.Goals as goal
@@ -11,7 +11,7 @@ returns-in-Err g c =
 
 pub returns-in-Err-accept : goal.returns-in-Err-accept
 returns-in-Err-accept g c =
-    let told = subst (λ (b : List ℕ). Tells b c.in-Err-accept.stop) c.deref.ensures.value c.in-Err-accept.ensures.refused in
+    let told = subst (λ (b : List ℕ). Explains b c.in-Err-accept.stop) c.deref.ensures.value c.in-Err-accept.ensures.refused in
     rw c.into_stop.ensures.value (told_refused c.args.program.now c.in-Ok.text.items c.in-Err-accept.stop _ _ _ _ _ _ _ _ c.in-Ok.ensures.text told c.in-Ok.ensures.shelf)
 
 pub returns-in-Ok-write_all : goal.returns-in-Ok-write_all

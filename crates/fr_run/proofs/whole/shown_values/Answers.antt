@@ -2,7 +2,7 @@ use Rattle.std.proofs.Common.{◌∙◌, ap, List, ◌∷◌, [], ◌++◌}
 use Rattle.fr_value.specs.declared.now.Now.{Now}
 use Rattle.fr_afresh.specs.Stands.{shown_of}
 use Rattle.fr_run.proofs.Each.{one_more}
-use Rattle.fr_run.proofs.session.shown_values.Goals as goal
+use Rattle.fr_run.proofs.whole.shown_values.Goals as goal
 
 pub loop-show-preserved : goal.loop-show-preserved
 loop-show-preserved c =

@@ -4,7 +4,7 @@ use Rattle.fr_show.specs.Ends.{EndsThere, StopSays, Begins}
 use Rattle.fr_show.specs.Output.{program_course, course_over}
 use Rattle.fr_show.proofs.Judged.{says_judged}
 use Rattle.fr_run.proofs.Wholes.{told_all, over_told, says_unaccepted}
-use Rattle.fr_run.proofs.session.afresh_session.Goals as goal
+use Rattle.fr_run.proofs.session.run_session.Goals as goal
 
 pub returns-in-Err-clause-err : goal.returns-in-Err-clause-err
 returns-in-Err-clause-err g c =

@@ -4,7 +4,7 @@ use Rattle.fr_cli.specs.declared.command.Request.TheVariants as request
 use Rattle.fr_cli.specs.Command.{Command, run, afresh, check}
 
 -- the command that a request is
-abbrev pub told : Request → Command
-told (request.Run program script) = run program.now script.now
-told (request.Afresh program script) = afresh program.now script.now
-told (request.Check program) = check program.now
+abbrev pub command_in : Request → Command
+command_in (request.Run program script) = run program.now script.now
+command_in (request.Afresh program script) = afresh program.now script.now
+command_in (request.Check program) = check program.now

@@ -1,0 +1,42 @@
+-- What a session writes at an instant, and the course that is ahead of it.
+use Rattle.std.specs.Prelude.{ℕ, ◌+◌, ◌≡◌, true, List, ◌∷◌, length, Option}
+use Rattle.std.specs.Io.KnownBytes.{Appends}
+use Rattle.fr_io.specs.Files.{AppendsSome}
+use Rattle.fr_core.specs.declared.inputs.Inputs.{Inputs}
+use Rattle.fr_core.specs.declared.program.Program.{Program}
+use Rattle.fr_script.specs.Sources.{Named}
+use Rattle.fr_script.specs.Instants.{bad_line}
+use Rattle.fr_meaning.specs.Texts.{Shown, instant_text, next_each}
+use Rattle.fr_meaning.specs.Afresh.{State, Instant, instant}
+use Rattle.fr_show.specs.Runs.{runs_from}
+use Rattle.fr_show.specs.declared.stop.Stop.{Stop}
+use Rattle.fr_show.specs.declared.stop.Stop.TheVariants as stop
+use Rattle.fr_show.specs.Course.{Course}
+use Rattle.fr_show.specs.Ends.{StopSays}
+use Rattle.fr_show.specs.Output.{shows_of, course_of, script_end}
+use Rattle.fr_run.specs.Scripts.{ahead}
+use Rattle.fr_run.specs.Standing.{Standing, IsBehind}
+
+-- there is one for each show of the program
+abbrev pub AreShowsOf : List Shown → Program → Type 0
+AreShowsOf shows p = length shows ≡ length (shows_of p.body)
+
+-- an instant of this time in which nothing errs was run, and its text was written
+pub record Wrote (e : Standing) (p : Program) (n : Instant) (time : ℕ) (shows later : List Shown) (old new : Option (List ℕ)) : Type 0 where
+  pub behind : IsBehind e p n
+  pub shows_are : later ≡ next_each shows n.evaluated.shown
+  pub written : Appends old new (instant_text time shows n.evaluated.shown)
+
+-- what was written of a text: some first bytes at a write fault, and nothing where there was no memory for it
+abbrev pub CutShort : Stop → List ℕ → Option (List ℕ) → Option (List ℕ) → Type 0
+CutShort stop.Write text old new = AppendsSome old new text
+CutShort (stop.Memory e) text old new = new ≡ old
+CutShort other text old new = ⊥
+
+-- what a stop within an instant says, whatever its number and whatever is behind it
+abbrev pub StopsIn : Stop → Program → State → Inputs → List Shown → Option (List ℕ) → Option (List ℕ) → Type 0
+StopsIn stop p s i shows old new = (k : ℕ) (end : Option Stop) (is : List Inputs) → StopSays stop (course_of end shows (runs_from k p s (i ∷ is))) old new
+
+-- the course over the whole instants of a script behind so many, on from where an evaluator stands
+abbrev pub course_behind : Standing → List Named → List ℕ → ℕ → List Shown → Course
+course_behind e ss script given shows = course_of (script_end (bad_line ss script true)) shows (runs_from (given + 1) e.program e.state (ahead ss script given))
