@@ -2,11 +2,11 @@
 ghost use Rattle.std.specs.Prelude.{◌≡◌, ◌++◌, ◌∷◌, [], ◌≤◌, None, Ok, IfOk, OnOk, length, map, take, drop};
 ghost use Rattle.fr_meaning.specs.Primitives.{applied};
 ghost use Rattle.fr_meaning.specs.Words.{own, part, plain};
-ghost use Rattle.fr_lines.specs.Rounds.{bound};
+ghost use Rattle.fr_forms.specs.Rounds.{bound};
 ghost use Rattle.fr_kernel.specs.Answers.{scope, Answers, Begins, TakesOr, PutsOr, TestsOr, BindsOr, AppliesHeld, BindsTurnOr, SpendsOr};
 
 use crate::fuel::KernStop;
-use fr_lines::{Seen, apply_primitive, share_part, test_in};
+use fr_forms::{Seen, apply_primitive, share_part, test_in};
 use fr_value::{Bad, Now, Primitive, Value};
 use sqlite_items::Items;
 use std::alloc::{AllocError, Global};

@@ -8,7 +8,7 @@ ghost use Rattle.fr_meaning.specs.Words.{own, part};
 ghost use Rattle.fr_meaning.specs.Cells.{child};
 ghost use Rattle.fr_meaning.specs.States.{no_call, of_operator};
 ghost use Rattle.fr_meaning.specs.Evaluation.{parts, let_done, choose, switch_done, call_done, body_for, body_with, turns, all_turns, rounds, loop_done, state_done};
-ghost use Rattle.fr_lines.specs.Rounds.{bound, number_of, rounds_left};
+ghost use Rattle.fr_forms.specs.Rounds.{bound, number_of, rounds_left};
 ghost use Rattle.fr_kernel.specs.Answers.{here, scope, Answers, Tells, HoldsOr};
 
 use crate::fuel::KernStop;
@@ -17,7 +17,7 @@ use crate::machine::{
     hold, spend, stopped, take_held, tested, value_of,
 };
 use fr_core::{Core, Function, Loop, Operator};
-use fr_lines::{Round, Rounds, Seen, rounds_of, share_part};
+use fr_forms::{Round, Rounds, Seen, rounds_of, share_part};
 use fr_value::{Bad, Primitive, Value};
 use std::alloc::{AllocError, Global};
 

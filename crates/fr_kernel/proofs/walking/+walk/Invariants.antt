@@ -1,7 +1,7 @@
 use Rattle.std.proofs.Common.{◌≡◌, ◌+◌, ◌*◌, length, drop}
 use Rattle.fr_core.specs.declared.kept.Kept.{Kept}
 use Rattle.fr_meaning.specs.Evaluation.{parts, body_with, turns}
-use Rattle.fr_lines.specs.Rounds.{number_of, rounds_left}
+use Rattle.fr_forms.specs.Rounds.{number_of, rounds_left}
 use Rattle.fr_kernel.specs.Answers.{here, scope}
 use Rattle.fr_kernel.proofs.Runs.{Onward, Turning}
 use Rattle.fr_kernel.proofs.walking.+walk.Given as goal
