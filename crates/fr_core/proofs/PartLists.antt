@@ -17,10 +17,6 @@ parts-body (x ∷ xs) n b = ap (λ l. x ∷ l) (parts-body xs n b)
 
 -- a number of each, or a test
 
-pub greatest-append : (ms ns : List ℕ) → greatest (ms ++ ns) ≡ max (greatest ms) (greatest ns)
-greatest-append [] ns = omega arith
-greatest-append (m ∷ ms) ns = omega (arith, greatest-append ms ns)
-
 pub total-append : (ms ns : List ℕ) → total (ms ++ ns) ≡ total ms + total ns
 total-append [] ns = omega arith
 total-append (m ∷ ms) ns = omega (arith, total-append ms ns)
@@ -32,10 +28,6 @@ and_true false = refl
 and_assoc : (a b c : Bool) → a && (b && c) ≡ (a && b) && c
 and_assoc true b c = refl
 and_assoc false b c = refl
-
-pub all_true-append : (ts us : List Bool) → all_true (ts ++ us) ≡ all_true ts && all_true us
-all_true-append [] us = refl
-all_true-append (t ∷ ts) us = ap (λ b. t && b) (all_true-append ts us) ∙ and_assoc t (all_true ts) (all_true us)
 
 pub greatest-body : {X : Type 0} (f : X → ℕ) (xs : List X) (n : ℕ) (b : X) → greatest (map f (map (λ (x : ℕ × X). x.1) (outer xs ++ (n, b) ∷ []))) ≡ max (greatest (map f xs)) (f b)
 greatest-body f [] n b = omega arith
