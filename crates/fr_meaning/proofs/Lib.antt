@@ -12,3 +12,4 @@ pub mod Told
 pub mod Decided
 pub mod Visits
 pub mod Bodies
+pub mod Made
