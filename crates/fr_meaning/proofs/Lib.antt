@@ -13,3 +13,4 @@ pub mod Told
 pub mod Decided
 pub mod Visits
 pub mod Bodies
+pub mod Made

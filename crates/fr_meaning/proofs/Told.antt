@@ -91,7 +91,7 @@ module _ (w : World) (at : List ℕ) where
       }
 
 -- the values of a scope with more variables
-scope_env : (scope more : List Binding) (xs : List Seen) → env_of more ≡ xs → env_of (scope ++ more) ≡ env_of scope ++ xs
+pub scope_env : (scope more : List Binding) (xs : List Seen) → env_of more ≡ xs → env_of (scope ++ more) ≡ env_of scope ++ xs
 scope_env scope more xs e = map-append (λ b. b.value) scope more ∙ ap (λ ys. env_of scope ++ ys) e
 
 pub given_env : (us : List Visit) (xs : List Seen) → length xs ≤ length us → env_of (given_by us xs) ≡ xs
@@ -118,15 +118,15 @@ pub few_values : (w : World) (n : ℕ) (v : Visit) (k : Kept) (es : List Core) �
 few_values w n v k es = let a = parts_length (eval_to n w) (env_of v.scope) k 0 es in let b = visits_length n v k 0 es in omega (arith, a, b)
 
 -- a body that was called behind parts
-abbrev called : ℕ → Parts → Done → Done
+abbrev pub called : ℕ → Parts → Done → Done
 called m ps d = ended d.value (kept.Group (ps.kepts ++ d.kept ∷ [])) (ps.cost + (d.cost + 1)) (option_or ps.first (under m d.first))
 
 -- a handler's call, from what its body gives
-abbrev call_of : ℕ → Done → Called
+abbrev pub call_of : ℕ → Done → Called
 call_of m d = record { value = d.value; cost = d.cost + 1; first = under m d.first }
 
 -- a `feedback`, from what INIT and BODY give
-abbrev fed_line : Option Cell → Done → Done → Done
+abbrev pub fed_line : Option Cell → Done → Done → Done
 fed_line cell i b = line_done (join_part 0 i (join_part 1 b no_parts)) (state_now of_feedback cell (i.value ∷ b.value ∷ []) no_call)
 
 module _ (w : World) (n : ℕ) (v : Visit) where

@@ -1,8 +1,9 @@
 -- The order in which visits end, and what holds of all that an evaluation visits.
-use Rattle.std.specs.Prelude.{ℕ, ◌≡◌, ◌<◌, ◌⊎◌, List, [], ◌∷◌, ◌++◌, None}
+use Rattle.std.specs.Prelude.{ℕ, ◌≡◌, ◌<◌, ◌⊎◌, List, [], ◌∷◌, ◌++◌, map, None}
 use Rattle.std.specs.List.{AllByRecursion, flat_map}
+use Rattle.fr_core.specs.declared.core_form.Core.{out-Core}
 use Rattle.fr_meaning.specs.Evaluation.{World}
-use Rattle.fr_meaning.specs.Visits.{Binding, Visit, paths, places, visits, own_error, uses}
+use Rattle.fr_meaning.specs.Visits.{Binding, Visit, paths, places, answer, inside, visits, form_of, cell_of, reading, own_error, uses}
 
 -- one place ends before another: a part before what it is a part of, and of two parts of one expression, with all that is inside them, the one of the smaller number
 abbrev pub EndsBefore : List ℕ → List ℕ → Type 0
@@ -26,6 +27,15 @@ pub record StandsWhole (w : World) (vs : List Visit) (v : Visit) : Type 0 where
   pub together : vs ≡ before ++ (visits w v ++ behind)
   pub none_before : AllByRecursion (λ u. IsWithin v.path u.path → ⊥) before
   pub none_behind : AllByRecursion (λ u. IsWithin v.path u.path → ⊥) behind
+
+-- two visits of one expression, on one level and with the same functions, have the same to go by: what the expression itself reads, its form's cell, and the answers of all that is inside
+pub record GoBySame (w : World) (v : Visit) (w' : World) (u : Visit) : Type 0 where
+  pub functions : w.functions ≡ w'.functions
+  pub level : v.level ≡ u.level
+  pub expr : v.expr ≡ u.expr
+  pub read : reading w v.scope (out-Core v.expr) ≡ reading w' u.scope (out-Core u.expr)
+  pub cell : cell_of (form_of (out-Core v.expr)) v.kept ≡ cell_of (form_of (out-Core u.expr)) u.kept
+  pub answers : map (answer w) (inside w v) ≡ map (answer w') (inside w' u)
 
 -- none of these visits has an error of its own
 abbrev pub ErrsNowhere : World → List Visit → Type 0

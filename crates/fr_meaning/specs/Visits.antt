@@ -12,9 +12,9 @@ use Rattle.fr_core.specs.declared.kept.Kept.TheVariants as kept
 use Rattle.fr_core.specs.declared.program.Item.{Item}
 use Rattle.fr_core.specs.declared.program.Program.{Program}
 use Rattle.fr_meaning.specs.Words.{Seen, Env, First, Done, part}
-use Rattle.fr_meaning.specs.Cells.{child}
+use Rattle.fr_meaning.specs.Cells.{Cell, child}
 use Rattle.fr_meaning.specs.States.{Begun, known, asks, StateForm, of_operator, of_handler, of_feedback, fed, no_call, handler_begin, state_now}
-use Rattle.fr_meaning.specs.Evaluation.{World, world_of, parts, Choice, choose, choice_kept, body_for, rounds, form_cell, behind_cell, eval_to}
+use Rattle.fr_meaning.specs.Evaluation.{World, world_of, source_seen, parts, Choice, choose, choice_kept, body_for, rounds, form_cell, behind_cell, eval_to}
 use Rattle.fr_meaning.specs.Dependence.{item_expr, with_bound}
 
 -- a variable in scope: its value, and the place that gives it
@@ -172,6 +172,17 @@ form_of (Core-F.Operator o es) = Some (of_operator o)
 form_of (Core-F.Handler h es body) = Some (of_handler h)
 form_of (Core-F.Feedback init body) = Some of_feedback
 form_of l = None
+
+-- the cell of a form in what was kept for it
+abbrev pub cell_of : Option StateForm → Kept → Option Cell
+cell_of None k = None
+cell_of (Some form) k = form_cell form k
+
+-- what an expression itself reads: a variable in scope, or a source
+abbrev pub reading : World → List Binding → Core-F Core → Option Seen
+reading w scope (Core-F.Var x) = slice_get (env_of scope) x.0
+reading w scope (Core-F.Source s) = Some (source_seen (slice_get w.sources s.0))
+reading w scope l = None
 
 -- the refusal of a part beside a form's value, from the values of what is inside
 abbrev pub refusal_of : Option StateForm → Kept → List Seen → Option Bad

@@ -14,7 +14,7 @@ ghost use Rattle.fr_meaning.specs.Afresh.{items, body};
 ghost use Rattle.fr_meaning.specs.Agreement.{IsSteady, IsSteadyOver};
 ghost use Rattle.fr_meaning.specs.Dependence.{variables, sources_of, AgreeAt, parts_followed, bound, followed};
 ghost use Rattle.fr_meaning.specs.Visits.{Binding, Visit, paths, answer, inside, visits, all_visits, own_cost, first_error, placed, body_visits};
-ghost use Rattle.fr_meaning.specs.Order.{EndsBefore, AreRising, StandsWhole, outer_places, AreReady, UsesEarlier, AgreeWhereUsed, ErrsNowhere};
+ghost use Rattle.fr_meaning.specs.Order.{EndsBefore, AreRising, StandsWhole, outer_places, AreReady, UsesEarlier, AgreeWhereUsed, GoBySame, ErrsNowhere};
 
 /// A pure expression's evaluation doesn't depend on its kept tree: value, cost and first error are the same over any
 /// two. Nor does it depend on a source that the expression doesn't name.
@@ -42,6 +42,13 @@ pub fn visits_add_up()
     ensures body_cost { (p : Program) (sources : List Now) (k : Kept) → total (map (own_cost (world_of p sources)) (body_visits p sources k)) ≡ (body p sources k).cost }
     ensures body_first { (p : Program) (sources : List Now) (k : Kept) → first_error (world_of p sources) (body_visits p sources k) ≡ (body p sources k).first }
     ensures body_clean { (p : Program) (sources : List Now) (k : Kept) → ErrsNowhere (world_of p sources) (body_visits p sources k) ↔ ((body p sources k).first ≡ None) }
+{}
+
+/// What a visit answers follows from what it has to go by: the variable or the source that its expression itself reads,
+/// its form's cell, and the answers of all that is inside it. So two visits of one expression that go by the same answer
+/// the same, at two instants too.
+pub fn visits_go_by_what_they_use()
+    ensures { (w : World) (v : Visit) (w' : World) (u : Visit) → GoBySame w v w' u → answer w v ≡ answer w' u }
 {}
 
 /// The visits of an evaluation are those of all that is inside it, each whole, and then the expression itself. They
