@@ -27,6 +27,7 @@ use sqlite_items::Items;
 use std::alloc::AllocError;
 
 /// A literal. It fails only where there is no memory.
+#[inline(never)]
 fn eval_literal(world: &World<'_>, value: &Value) -> Result<Done, AllocError>
     ensures { IfOk result (λ d. d ≡ told (leaf (plain value.now))) }
 {
@@ -34,6 +35,7 @@ fn eval_literal(world: &World<'_>, value: &Value) -> Result<Done, AllocError>
 }
 
 /// A variable, over the values of those in scope. It fails only where there is no memory.
+#[inline(never)]
 fn eval_variable(world: &World<'_>, env: &[Seen], id: VarId) -> Result<Done, AllocError>
     ensures { IfOk result (λ d. d ≡ told (leaf (part env.now id.0))) }
 {
@@ -41,6 +43,7 @@ fn eval_variable(world: &World<'_>, env: &[Seen], id: VarId) -> Result<Done, All
 }
 
 /// A source. It fails only where there is no memory.
+#[inline(never)]
 fn eval_source(world: &World<'_>, id: SrcId) -> Result<Done, AllocError>
     ensures { IfOk result (λ d. d ≡ told (leaf (source_seen (slice_get world.now.sources id.0)))) }
 {
@@ -148,6 +151,7 @@ fn eval_with(
     Ok(done)
 }
 
+#[inline(never)]
 #[cycle(eval)]
 fn eval_let(
     world: &World<'_>,
@@ -166,6 +170,7 @@ fn eval_let(
     last_done(world.alloc(), around, number, last)
 }
 
+#[inline(never)]
 #[cycle(eval)]
 fn eval_if(
     world: &World<'_>,
@@ -192,6 +197,7 @@ fn eval_if(
     }
 }
 
+#[inline(never)]
 #[cycle(eval)]
 fn eval_call(
     world: &World<'_>,
@@ -215,6 +221,7 @@ fn eval_call(
     }
 }
 
+#[inline(never)]
 #[cycle(eval)]
 fn eval_operator(
     world: &World<'_>,

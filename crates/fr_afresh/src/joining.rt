@@ -1,4 +1,5 @@
-//! How an expression's evaluation is made of those of its parts.
+//! How an expression's evaluation is made of those of its parts. What the recursion calls is kept out of line, so that a level
+//! takes little stack.
 ghost use Rattle.std.specs.Prelude.{◌≡◌, ◌++◌, ◌∷◌, [], IfOk, OnOk, Err, None};
 ghost use Rattle.std.specs.Option.{option_or};
 ghost use Rattle.fr_meaning.specs.Words.{under, own};
@@ -143,6 +144,7 @@ pub fn with_kept(
 }
 
 /// The parts so far, and behind them the part of this number. It fails only where there is no memory.
+#[inline(never)]
 pub fn part_behind(parts: Parts, number: usize, part: Done) -> Result<Parts, AllocError>
     ensures { IfOk result (λ p. p ≡ with_part parts number part) }
 {
@@ -164,6 +166,7 @@ fn behind(around: Around, number: usize, part: Done) -> Result<Around, AllocErro
 }
 
 /// What a test leaves beside its value. It fails only where there is no memory.
+#[inline(never)]
 pub fn test_behind(alloc: Global, test: Done) -> Result<Around, AllocError>
     ensures { IfOk result (λ a. a ≡ joined unbegun_around 0 test.kept test.first) }
 {
@@ -171,6 +174,7 @@ pub fn test_behind(alloc: Global, test: Done) -> Result<Around, AllocError>
 }
 
 /// An evaluation that gives this value behind its parts, and keeps what they keep.
+#[inline(never)]
 pub fn ended(alloc: Global, value: Seen, around: Around) -> Done
     ensures { result ≡ ended_as value around }
 {
@@ -184,6 +188,7 @@ pub fn ended(alloc: Global, value: Seen, around: Around) -> Done
 }
 
 /// The evaluation of an expression without parts.
+#[inline(never)]
 pub fn leaf_of(alloc: Global, value: Seen) -> Done
     ensures { result ≡ told (leaf value) }
 {
@@ -196,6 +201,7 @@ pub fn leaf_of(alloc: Global, value: Seen) -> Done
 }
 
 /// The evaluation beyond the last level.
+#[inline(never)]
 pub fn too_deep(alloc: Global) -> Done
     ensures { result ≡ told deep }
 {
@@ -203,6 +209,7 @@ pub fn too_deep(alloc: Global) -> Done
 }
 
 /// An evaluation whose value is that of a last part, which has this number. It fails only where there is no memory.
+#[inline(never)]
 pub fn last_done(
     alloc: Global,
     around: Around,
@@ -218,6 +225,7 @@ pub fn last_done(
 
 /// A switch behind its test, whose value is that of the choice, which is the part of this number. It fails only where
 /// there is no memory.
+#[inline(never)]
 pub fn choice_done(
     alloc: Global,
     around: Around,
@@ -233,6 +241,7 @@ pub fn choice_done(
 }
 
 /// A switch whose test can't be told. It fails only where there is no memory.
+#[inline(never)]
 pub fn untested(alloc: Global, around: Around, bad: Bad) -> Result<Done, AllocError>
     ensures { IfOk result (λ d. d ≡ ended_as (Err bad) (joined around 1 Kept.Nothing None)) }
 {
@@ -241,6 +250,7 @@ pub fn untested(alloc: Global, around: Around, bad: Bad) -> Result<Done, AllocEr
 }
 
 /// The turns so far, of which one more was made, which has this number. It fails only where there is no memory.
+#[inline(never)]
 pub fn turned(number: usize, first: First, turn: Done) -> Result<Turns, AllocError>
     ensures { IfOk result (λ t. t ≡ record { value = turn.value; first = option_or first (under number turn.first) }) }
 {
@@ -255,6 +265,7 @@ pub fn turned(number: usize, first: First, turn: Done) -> Result<Turns, AllocErr
 }
 
 /// A loop behind its turns, which are the part of this number. It fails only where there is no memory.
+#[inline(never)]
 pub fn turns_done(
     alloc: Global,
     around: Around,
@@ -294,6 +305,7 @@ fn around_cell(alloc: Global, next: Option<Cell>, kepts: Items<Kept>) -> Result<
 }
 
 /// A form's line behind its parts. It fails only where there is no memory.
+#[inline(never)]
 pub fn line_done(alloc: Global, around: Around, line: Line) -> Result<Done, AllocError>
     ensures { IfOk result (λ d. d ≡ lined around (line_of line)) }
 {
@@ -313,6 +325,7 @@ pub fn line_done(alloc: Global, around: Around, line: Line) -> Result<Done, Allo
 }
 
 /// An operator behind its parts. It fails only where there is no memory.
+#[inline(never)]
 pub fn operator_done(
     alloc: Global,
     operator: Operator,
@@ -335,6 +348,7 @@ fn both_behind(alloc: Global, init: Done, body: Done) -> Result<Around, AllocErr
 }
 
 /// A `feedback` behind INIT and BODY. It fails only where there is no memory.
+#[inline(never)]
 pub fn feedback_done(
     alloc: Global,
     cell: Option<LentCell<'_>>,
@@ -350,6 +364,7 @@ pub fn feedback_done(
 
 /// A form behind its handler's call with these arguments, whose body is the part of this number. It fails only where
 /// there is no memory.
+#[inline(never)]
 pub fn handled(
     alloc: Global,
     handler: Handler,
