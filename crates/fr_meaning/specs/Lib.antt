@@ -5,6 +5,7 @@ pub mod States
 pub mod Evaluation
 pub mod Texts
 pub mod Afresh
+pub mod Runs
 pub mod Agreement
 pub mod Dependence
 pub mod Visits

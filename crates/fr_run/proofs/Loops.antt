@@ -9,7 +9,7 @@ use Rattle.fr_script.specs.Sources.{Named}
 use Rattle.fr_script.specs.Instants.{BadLine, bad_line}
 use Rattle.fr_meaning.specs.Texts.{Shown, instant_text, next_each}
 use Rattle.fr_meaning.specs.Afresh.{State, handed_on, instant}
-use Rattle.fr_show.specs.Runs.{runs_from}
+use Rattle.fr_meaning.specs.Runs.{runs_from}
 use Rattle.fr_show.specs.declared.stop.Stop.{Stop}
 use Rattle.fr_show.specs.declared.stop.Stop.TheVariants.{Script, Evaluation, Program as Refused, Read, Write, Memory}
 use Rattle.fr_show.specs.Course.{Course, all_bytes, after, stopped}

@@ -6,7 +6,7 @@ use Rattle.fr_core.specs.declared.program.Program.{Program}
 use Rattle.fr_meaning.specs.Words.{Seen, First}
 use Rattle.fr_meaning.specs.Texts.{Shown, instant_text, next_each}
 use Rattle.fr_meaning.specs.Afresh.{State, Instant, handed_on, instant}
-use Rattle.fr_show.specs.Runs.{unless_erred, runs_from}
+use Rattle.fr_meaning.specs.Runs.{unless_erred, runs_from}
 use Rattle.fr_show.specs.declared.stop.Stop.{Stop}
 use Rattle.fr_show.specs.declared.stop.Stop.TheVariants.{Script, Evaluation, Program as Refused, Read, Write, Memory}
 use Rattle.fr_show.specs.Course.{Course, all_bytes, after, stopped}

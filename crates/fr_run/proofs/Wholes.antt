@@ -9,7 +9,7 @@ use Rattle.fr_script.specs.Instants.{BadLine, whole, bad_line}
 use Rattle.fr_meaning.specs.Words.{First}
 use Rattle.fr_meaning.specs.Texts.{Shown, instant_text, next_each}
 use Rattle.fr_meaning.specs.Afresh.{beginning, first_instant, instant}
-use Rattle.fr_show.specs.Runs.{Run, runs_from}
+use Rattle.fr_meaning.specs.Runs.{Run, runs_from}
 use Rattle.fr_show.specs.declared.acceptance.AcceptStop.{AcceptStop}
 use Rattle.fr_show.specs.declared.acceptance.AcceptStop.TheVariants as accept
 use Rattle.fr_show.specs.declared.stop.Stop.{Stop}

@@ -2,6 +2,5 @@ pub mod Course
 pub mod Accepted
 pub mod Stops
 pub mod Ends
-pub mod Runs
 pub mod Output
 pub mod Shows

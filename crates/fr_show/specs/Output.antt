@@ -8,7 +8,7 @@ use Rattle.fr_script.specs.Sources.{sources}
 use Rattle.fr_meaning.specs.Words.{First}
 use Rattle.fr_meaning.specs.Texts.{Shown, instant_text, next_each}
 use Rattle.fr_meaning.specs.Afresh.{beginning, first_instant}
-use Rattle.fr_show.specs.Runs.{Run, runs}
+use Rattle.fr_meaning.specs.Runs.{Run, runs}
 use Rattle.fr_show.specs.declared.stop.Stop.{Stop}
 use Rattle.fr_show.specs.declared.stop.Stop.TheVariants as stop
 use Rattle.fr_show.specs.Accepted.{Verdict}
