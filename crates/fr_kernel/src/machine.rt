@@ -2,7 +2,7 @@
 ghost use Rattle.std.specs.Prelude.{◌≡◌, ◌++◌, ◌∷◌, [], ◌≤◌, None, Ok, IfOk, OnOk, length, map, take, drop};
 ghost use Rattle.fr_meaning.specs.Primitives.{applied};
 ghost use Rattle.fr_meaning.specs.Words.{own, part, plain};
-ghost use Rattle.fr_forms.specs.Rounds.{bound};
+ghost use Rattle.fr_forms.specs.Lent.{bound};
 ghost use Rattle.fr_kernel.specs.Answers.{scope, Answers, Begins, TakesOr, PutsOr, TestsOr, BindsOr, AppliesHeld, BindsTurnOr, SpendsOr};
 
 use crate::fuel::KernStop;

@@ -8,7 +8,8 @@ ghost use Rattle.fr_meaning.specs.Words.{own, part};
 ghost use Rattle.fr_meaning.specs.Cells.{child};
 ghost use Rattle.fr_meaning.specs.States.{no_call, of_operator};
 ghost use Rattle.fr_meaning.specs.Evaluation.{parts, let_done, choose, switch_done, call_done, body_for, body_with, turns, all_turns, rounds, loop_done, state_done};
-ghost use Rattle.fr_forms.specs.Rounds.{bound, number_of, rounds_left};
+ghost use Rattle.fr_forms.specs.Lent.{bound};
+ghost use Rattle.fr_forms.specs.Rounds.{number_of, rounds_left};
 ghost use Rattle.fr_kernel.specs.Answers.{here, scope, Answers, Tells, HoldsOr};
 
 use crate::fuel::KernStop;

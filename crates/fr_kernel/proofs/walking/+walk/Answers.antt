@@ -6,7 +6,7 @@ use Rattle.fr_core.specs.declared.kept.Kept.TheVariants as kept
 use Rattle.fr_meaning.specs.Cells.{child}
 use Rattle.fr_meaning.specs.Evaluation.{parts}
 use Rattle.fr_meaning.proofs.Levels.{at_zero, at_level}
-use Rattle.fr_forms.specs.Rounds.{bound}
+use Rattle.fr_forms.specs.Lent.{bound}
 use Rattle.fr_kernel.specs.declared.machine.Machine.{Machine}
 use Rattle.fr_kernel.specs.Answers.{here, scope, Tells}
 use Rattle.fr_kernel.proofs.Runs.{let_tells, call_tells, turn_tells, enters, told, onward, onward_stop, puts, puts_none, next_part, within_entered, within_held}
