@@ -1,12 +1,12 @@
 -- What each call makes of the places, and what contracts see of it.
-use Rattle.std.proofs.Common.{◌≡◌, ◌≢◌, ℕ, zero, suc, ◌+◌, ◌*◌, ◌/◌, ◌^◌, ◌<◌, ◌≤◌, List, [], ◌∷◌, ◌++◌, length, map, max, ◌⊎◌, inl, inr, Option, Some, None, IsSome, IsTrue, Bool, true, false, cond, nat_eq, slice_get, Vec, Global, vec_len, slice_index_or, slice_set, refl, sym, ap, ◌∙◌, subst, arith, add-one}
+use Rattle.std.proofs.Common.{◌≡◌, ◌≢◌, ℕ, suc, ◌+◌, ◌*◌, ◌/◌, ◌^◌, ◌<◌, ◌≤◌, List, [], ◌∷◌, ◌++◌, length, map, max, inl, inr, Option, Some, None, IsSome, IsTrue, Bool, true, false, cond, nat_eq, slice_get, Vec, Global, vec_len, slice_index_or, slice_set, refl, sym, ap, ◌∙◌, subst, arith, add-one}
 use Rattle.std.specs.List.{range_with_len}
 use Rattle.std.proofs.lemmas.List.{get_or_read, length-map, map-id}
 use Rattle.std.proofs.lemmas.List.FromFn.{length-map-range_with_len}
 use Rattle.fr_links.specs.declared.place.Place.{Place}
 use Rattle.fr_links.specs.Lists.{Linked, has_item, list_at, list_of, others, with_empty, with_first, with_last, without}
-use Rattle.fr_links.specs.Rings.{AllDifferent, AreRings, IsLinked, Puts, TakesOut, item_place, items_in, linked, list_place, next_of, place_at, previous_of, ring_of}
-use Rattle.fr_links.proofs.Has.{by_truth, eq_apart, eq_is, eq_self, half_item, half_list, has_append_cases, here, item_no_list, or_case, same_list, there, true_false}
+use Rattle.fr_links.specs.Rings.{AreRings, IsLinked, Puts, TakesOut, item_place, items_in, linked, list_place, next_of, place_at, previous_of, ring_of}
+use Rattle.fr_links.proofs.Has.{by_truth, eq_apart, eq_is, eq_self, half_item, half_list, has_append_cases, item_no_list, or_case, there, true_false}
 use Rattle.fr_links.proofs.Kept.{after_place, before_place, first_is, grown, item_there, last_is, one_list, put_first, put_last, taken_out}
 use Rattle.fr_links.proofs.Others.{others_has}
 use Rattle.fr_links.proofs.Seen.{as_seen, first_item, has_at, items_seen, next_item}
@@ -91,7 +91,8 @@ module _ (places : List Place) (lists items : ℕ) (k : IsLinked places lists it
   ring_bound_too : (l p : ℕ) → l < lists → has_item (map item_place (in_list l) ++ list_place l ∷ []) p ≡ true → p < length places
   ring_bound_too l p below h = elim (has_append_cases (map item_place (in_list l)) (list_place l ∷ []) p h) [
     | inl early ↦ ring_bound l p below (there (list_place l) p (map item_place (in_list l)) early)
-    | inr last ↦ or_case (nat_eq (list_place l) p) false last (λ e. subst (λ (q : ℕ). q < length places) (eq_is (list_place l) p e) (list_bound l below)) (λ f. cc)
+    | inr last ↦ or_case (nat_eq (list_place l) p) false last (λ e. subst (λ (q : ℕ). q < length places) (eq_is (list_place l) p e) (list_bound l below))
+        (λ f. cc)
   ]
 
   pub last_bound : (l r : ℕ) → l < lists → r ≡ list_place l → previous_of places r < length places
@@ -113,11 +114,13 @@ module _ (places : List Place) (lists items : ℕ) (k : IsLinked places lists it
 
   pub ring_of_last : (l r : ℕ) → r ≡ list_place l → ring_of places (previous_of places r) ≡ list_place l
   ring_of_last l r e =
-      subst (λ (q : ℕ). ring_of places (previous_of places q) ≡ list_place l) (sym e) (last_is (next_of places) (previous_of places) (ring_of places) lists items in_list k.rings l)
+      subst (λ (q : ℕ). ring_of places (previous_of places q) ≡ list_place l) (sym e)
+      (last_is (next_of places) (previous_of places) (ring_of places) lists items in_list k.rings l)
 
   pub ring_of_first : (l r : ℕ) → r ≡ list_place l → ring_of places (next_of places r) ≡ list_place l
   ring_of_first l r e =
-      subst (λ (q : ℕ). ring_of places (next_of places q) ≡ list_place l) (sym e) (first_is (next_of places) (previous_of places) (ring_of places) lists items in_list k.rings l)
+      subst (λ (q : ℕ). ring_of places (next_of places q) ≡ list_place l) (sym e)
+      (first_is (next_of places) (previous_of places) (ring_of places) lists items in_list k.rings l)
 
   pub read : (p : ℕ) (x : Place) → p < length places → x ≡ slice_index_or places p x → x ≡ place_at places p
   read p x below e = get_or_read places p x below e (record { next = p; previous = p; ring = p })
@@ -161,7 +164,8 @@ module _ (places : List Place) (lists items : ℕ) (k : IsLinked places lists it
     }
 
     -- one list is another
-    view_changed : (l : ℕ) (xs : List ℕ) → l < lists → AreRings (next_of new) (previous_of new) (ring_of new) lists items (λ m. cond (nat_eq m l) xs (in_list m))
+    view_changed : (l : ℕ) (xs : List ℕ) → l < lists → AreRings (next_of new) (previous_of new) (ring_of new) lists items
+        (λ m. cond (nat_eq m l) xs (in_list m))
         → linked new lists items ≡ record v { lists = slice_set v.lists l xs }
     view_changed l xs below rings =
         same_linked (map (items_in new items) (range_with_len 0 lists)) (slice_set v.lists l xs) items v.items
@@ -171,16 +175,20 @@ module _ (places : List Place) (lists items : ℕ) (k : IsLinked places lists it
         ∙ ap (λ (w : Linked). slice_set w.lists l xs) is)
         (ap (λ (w : Linked). w.items) is)
 
-    module _ (l i p r : ℕ) (in_lists : l < length v.lists) (in_items : i < v.items) (none : list_of v.lists i ≡ None) (ep : p ≡ item_place i) (er : r ≡ list_place l) where
-      pushed_back : Puts places new p r r → AreRings (next_of new) (previous_of new) (ring_of new) lists items (λ m. cond (nat_eq m l) (in_list l ++ i ∷ []) (in_list m))
+    module _ (l i p r : ℕ) (in_lists : l < length v.lists) (in_items : i < v.items) (none : list_of v.lists i ≡ None) (ep : p ≡ item_place i)
+        (er : r ≡ list_place l) where
+      pushed_back : Puts places new p r r → AreRings (next_of new) (previous_of new) (ring_of new) lists items
+          (λ m. cond (nat_eq m l) (in_list l ++ i ∷ []) (in_list m))
       pushed_back puts =
           put_last places new lists items in_list k.rings l i (list_below l in_lists) (item_below i in_items) (absent i none)
           (subst (λ (q : ℕ). Puts places new q (list_place l) (list_place l)) ep (subst (λ (q : ℕ). Puts places new p q q) er puts))
 
-      pushed_front : Puts places new p (next_of places r) r → AreRings (next_of new) (previous_of new) (ring_of new) lists items (λ m. cond (nat_eq m l) (i ∷ in_list l) (in_list m))
+      pushed_front : Puts places new p (next_of places r) r → AreRings (next_of new) (previous_of new) (ring_of new) lists items
+          (λ m. cond (nat_eq m l) (i ∷ in_list l) (in_list m))
       pushed_front puts =
           put_first places new lists items in_list k.rings l i (list_below l in_lists) (item_below i in_items) (absent i none)
-          (subst (λ (q : ℕ). Puts places new q (next_of places (list_place l)) (list_place l)) ep (subst (λ (q : ℕ). Puts places new p (next_of places q) q) er puts))
+          (subst (λ (q : ℕ). Puts places new q (next_of places (list_place l)) (list_place l)) ep
+          (subst (λ (q : ℕ). Puts places new p (next_of places q) q) er puts))
 
       pub back_kept : Puts places new p r r → IsLinked new lists items
       back_kept puts = kept (λ m. cond (nat_eq m l) (in_list l ++ i ∷ []) (in_list m)) (pushed_back puts) puts.len
@@ -233,12 +241,14 @@ module _ (places : List Place) (lists items : ℕ) (k : IsLinked places lists it
     pub after_bound : next_of places p < length places
     after_bound =
         subst (λ (q : ℕ). next_of places q < length places) (sym ep)
-        (ring_bound_too l (next_of places (item_place i)) below (after_place (next_of places) (previous_of places) (ring_of places) lists items in_list k.rings l i at))
+        (ring_bound_too l (next_of places (item_place i)) below
+        (after_place (next_of places) (previous_of places) (ring_of places) lists items in_list k.rings l i at))
 
     pub before_bound : previous_of places p < length places
     before_bound =
         subst (λ (q : ℕ). previous_of places q < length places) (sym ep)
-        (ring_bound l (previous_of places (item_place i)) below (before_place (next_of places) (previous_of places) (ring_of places) lists items in_list k.rings l i at))
+        (ring_bound l (previous_of places (item_place i)) below
+        (before_place (next_of places) (previous_of places) (ring_of places) lists items in_list k.rings l i at))
 
   pub first_seen : (l r : ℕ) (x : Place) (o : Option ℕ) → r ≡ list_place l → r < length places → x ≡ slice_index_or places r x
       → (x.next ≡ r → o ≡ None) → (x.next ≢ r → o ≡ Some (x.next / 2)) → o ≡ slice_get (list_at v.lists l) 0
@@ -295,18 +305,24 @@ module _ (places : List Place) (lists items : ℕ) (k : IsLinked places lists it
       elim (k.rings.somewhere i) [
         | inl alone ↦
             none (its_ring ∙ alone ∙ sym ep)
-            ∙ sym (in_no_list i (λ l. elim (by_truth (has_item (in_list l) i)) [ inl h ↦ absurd (item_no_list i l (sym alone ∙ k.rings.owner l i h)) | inr n ↦ n ]))
+            ∙ sym (in_no_list i (λ l. elim (by_truth (has_item (in_list l) i)) [
+              | inl h ↦ absurd
+                  (item_no_list i l (sym alone ∙ k.rings.owner l i h))
+              | inr n ↦ n
+            ]))
         | inr of_list ↦
             some_list (λ same. item_no_list i of_list.0 (sym ep ∙ sym same ∙ its_ring ∙ of_list.1))
             ∙ ap (λ (n : ℕ). Some (n / 2)) (its_ring ∙ of_list.1) ∙ ap (λ (n : ℕ). Some n) (half_list of_list.0)
             ∙ sym (in_that_list i of_list.0 (k.rings.owned of_list.0 i of_list.1))
       ]
 
-  module _ (new : List Place) (lists' items' : ℕ) (more_lists : lists ≤ lists') (more_items : items ≤ items') (same : (p : ℕ) → place_at new p ≡ place_at places p) where
+  module _ (new : List Place) (lists' items' : ℕ) (more_lists : lists ≤ lists') (more_items : items ≤ items')
+      (same : (p : ℕ) → place_at new p ≡ place_at places p) where
     grown_rings : AreRings (next_of new) (previous_of new) (ring_of new) lists' items' in_list
     grown_rings =
         grown (next_of places) (previous_of places) (ring_of places) (next_of new) (previous_of new) (ring_of new) lists items lists' items' in_list k.rings
-        (λ p. ap (λ (x : Place). x.next) (same p)) (λ p. ap (λ (x : Place). x.previous) (same p)) (λ p. ap (λ (x : Place). x.ring) (same p)) more_lists more_items
+        (λ p. ap (λ (x : Place). x.next) (same p)) (λ p. ap (λ (x : Place). x.previous) (same p))
+        (λ p. ap (λ (x : Place). x.ring) (same p)) more_lists more_items
 
     pub reserve_kept : 2 * lists' ≤ length new → 2 * items' ≤ length new → length new ≤ 2 ^ 32 → IsLinked new lists' items'
     reserve_kept for_lists for_items few = record {
@@ -324,7 +340,8 @@ module _ (places : List Place) (lists items : ℕ) (k : IsLinked places lists it
 
 -- an item that leaves its list and is put at the end of another
 module _ (places : List Place) (lists items : ℕ) (k : IsLinked places lists items) (v : Linked) (is : linked places lists items ≡ v)
-    (mid : List Place) (i p l r : ℕ) (s : IsSome (list_of v.lists i)) (ep : p ≡ item_place i) (takes : TakesOut places mid p) (in_lists : l < length v.lists) (er : r ≡ list_place l) where
+    (mid : List Place) (i p l r : ℕ) (s : IsSome (list_of v.lists i)) (ep : p ≡ item_place i) (takes : TakesOut places mid p)
+    (in_lists : l < length v.lists) (er : r ≡ list_place l) where
   abbrev then_seen : Linked
   then_seen = record v { lists = without v.lists i }
 
@@ -348,7 +365,8 @@ module _ (places : List Place) (lists items : ℕ) (k : IsLinked places lists it
 
   pub mid_not_last : p ≢ previous_of mid r
   mid_not_last =
-      not_in_ring mid lists items then_kept then_seen then_is l i p (previous_of mid r) then_alone ep (ring_of_last mid lists items then_kept then_seen then_is l r er)
+      not_in_ring mid lists items then_kept then_seen then_is l i p (previous_of mid r) then_alone ep
+      (ring_of_last mid lists items then_kept then_seen then_is l r er)
 
   pub moved_kept : (new : List Place) → Puts mid new p r r → IsLinked new lists items
   moved_kept new puts = back_kept mid lists items then_kept then_seen then_is new l i p r list_usable item_usable then_alone ep er puts

@@ -1,5 +1,5 @@
 -- Which numbers stand in a list.
-use Rattle.std.proofs.Common.{◌≡◌, ◌≢◌, ℕ, zero, suc, ◌+◌, ◌*◌, ◌/◌, ◌<◌, ◌≤◌, List, [], ◌∷◌, ◌++◌, length, map, filter, ◌⊎◌, inl, inr, Bool, true, false, cond, not, nat_eq, ◌||◌, refl, sym, ap, ◌∙◌, subst, arith, append_assoc}
+use Rattle.std.proofs.Common.{◌≡◌, ◌≢◌, ℕ, ◌/◌, List, [], ◌∷◌, ◌++◌, map, ◌⊎◌, inl, inr, Bool, true, false, nat_eq, ◌||◌, refl, sym, ap, ◌∙◌, arith}
 use Rattle.fr_links.specs.Lists.{has_item}
 use Rattle.fr_links.specs.Rings.{AllDifferent, item_place, list_place}
 
@@ -81,7 +81,8 @@ not_tail (w ∷ xs) x ys z n = not_tail xs x ys z (or_none (nat_eq w z) (has_ite
 
 -- in the list or the end, so not this one
 pub not_first : (ys : List ℕ) (b z i : ℕ) → has_item (ys ++ b ∷ []) i ≡ true → has_item ys z ≡ false → nat_eq z b ≡ false → i ≢ z
-not_first [] b z i h n nb = or_case (nat_eq b i) false h (λ e same. true_false (nat_eq z b) (ap (λ (k : ℕ). nat_eq k b) (sym same ∙ sym (eq_is b i e)) ∙ eq_self b) nb) (λ f. cc)
+not_first [] b z i h n nb = or_case (nat_eq b i) false h (λ e same. true_false (nat_eq z b)
+    (ap (λ (k : ℕ). nat_eq k b) (sym same ∙ sym (eq_is b i e)) ∙ eq_self b) nb) (λ f. cc)
 not_first (y ∷ ys) b z i h n nb = or_case (nat_eq y i) (has_item (ys ++ b ∷ []) i) h
     (λ e same. true_false (nat_eq y z) (ap (λ (k : ℕ). nat_eq y k) (sym same) ∙ e) (or_none (nat_eq y z) (has_item ys z) n).0)
     (λ t. not_first ys b z i t (or_none (nat_eq y z) (has_item ys z) n).1 nb)

@@ -1,10 +1,10 @@
 -- The places stay rings as an item is put in or taken out, and as places are added.
-use Rattle.std.proofs.Common.{◌≡◌, ◌≢◌, ℕ, zero, suc, ◌+◌, ◌*◌, ◌<◌, ◌≤◌, List, [], ◌∷◌, ◌++◌, length, map, ◌⊎◌, inl, inr, Bool, true, false, cond, nat_eq, ◌||◌, refl, sym, ap, ◌∙◌, subst, arith, append_assoc}
+use Rattle.std.proofs.Common.{◌≡◌, ◌≢◌, ℕ, ◌<◌, ◌≤◌, List, [], ◌∷◌, ◌++◌, map, ◌⊎◌, inl, inr, Bool, true, false, cond, nat_eq, sym, ap, ◌∙◌, subst, arith, append_assoc}
 use Rattle.std.proofs.lemmas.List.{map-append}
 use Rattle.fr_links.specs.declared.place.Place.{Place}
 use Rattle.fr_links.specs.Lists.{has_item, others}
 use Rattle.fr_links.specs.Rings.{AllDifferent, AreRings, IsSegment, Puts, TakesOut, item_place, list_place, next_of, previous_of, ring_of}
-use Rattle.fr_links.proofs.Has.{by_number, by_truth, cons_absent, differ, different_places, different_push, eq_is, eq_self, has_append_cases, has_append_left, has_append_right, has_place, here, item_no_list, no_list_place, or_case, or_none, same_item, same_list, there, true_false}
+use Rattle.fr_links.proofs.Has.{by_number, by_truth, cons_absent, differ, different_places, different_push, eq_is, eq_self, has_append_cases, has_append_left, has_append_right, has_place, here, item_no_list, no_list_place, or_case, same_item, same_list, there, true_false}
 use Rattle.fr_links.proofs.Others.{others_absent, others_different, others_has, others_keeps, others_split, split_at}
 use Rattle.fr_links.proofs.Segments.{after_in, back_again, before_in, first_in, last_in, segment_frame, segment_out, segment_put_first, segment_put_last}
 
@@ -35,7 +35,8 @@ module _ (next previous ring : ℕ → ℕ) (lists items : ℕ) (list : ℕ → 
   pub ring_is_too : (l p : ℕ) → has_item (map item_place (list l) ++ list_place l ∷ []) p ≡ true → ring p ≡ list_place l
   ring_is_too l p h = elim (has_append_cases (map item_place (list l)) (list_place l ∷ []) p h) [
     | inl early ↦ ring_is l p (there (list_place l) p (map item_place (list l)) early)
-    | inr last ↦ or_case (nat_eq (list_place l) p) false last (λ e. subst (λ (q : ℕ). ring q ≡ list_place l) (eq_is (list_place l) p e) (k.ring_self l)) (λ f. cc)
+    | inr last ↦ or_case (nat_eq (list_place l) p) false last (λ e. subst (λ (q : ℕ). ring q ≡ list_place l) (eq_is (list_place l) p e) (k.ring_self l))
+        (λ f. cc)
   ]
 
   -- an item stands in one list at most
@@ -86,10 +87,12 @@ module _ (old new : List Place) (lists items : ℕ) (list : ℕ → List ℕ) (k
   pub put : (l i before : ℕ) (xs : List ℕ) → l < lists → i < items → ((m : ℕ) → has_item (list m) i ≡ false)
       → ring_of old before ≡ list_place l → ring_of old (previous_of old before) ≡ list_place l → Puts old new (item_place i) before (list_place l)
       → IsSegment (next_of new) (previous_of new) (list_place l) (map item_place xs) (list_place l) → AllDifferent xs
-      → ((j : ℕ) → has_item xs j ≡ true → (has_item (list l) j ≡ true) ⊎ (j ≡ i)) → ((j : ℕ) → has_item (list l) j ≡ true → has_item xs j ≡ true) → has_item xs i ≡ true
+      → ((j : ℕ) → has_item xs j ≡ true → (has_item (list l) j ≡ true) ⊎ (j ≡ i)) → ((j : ℕ) → has_item (list l) j ≡ true → has_item xs j ≡ true)
+      → has_item xs i ≡ true
       → AreRings (next_of new) (previous_of new) (ring_of new) lists items (λ m. cond (nat_eq m l) xs (list m))
   put l i before xs in_lists in_items free at_before at_last p segment once only all it = record {
-    segment = λ m. at_change (λ n zs. IsSegment (next_of new) (previous_of new) (list_place n) (map item_place zs) (list_place n)) m l xs (list m) segment (λ apart. frame m apart);
+    segment = λ m. at_change (λ n zs. IsSegment (next_of new) (previous_of new) (list_place n) (map item_place zs) (list_place n)) m l xs (list m) segment
+        (λ apart. frame m apart);
     once = λ m. at_change (λ n zs. AllDifferent zs) m l xs (list m) once (λ apart. k.once m);
     small = λ m j. at_change (λ n zs. has_item zs j ≡ true → j < items) m l xs (list m)
         (λ h. elim (only j h) [ inl was ↦ k.small l j was | inr e ↦ subst (λ (n : ℕ). n < items) (sym e) in_items ])
@@ -132,13 +135,15 @@ module _ (old new : List Place) (lists items : ℕ) (list : ℕ → List ℕ) (k
       frame m apart =
           segment_frame (next_of old) (previous_of old) (next_of new) (previous_of new) (list_place m) (map item_place (list m)) (list_place m)
           (λ q h. let a = elsewhere m q apart (ring_is (next_of old) (previous_of old) (ring_of old) lists items list k m q h) in p.next_other q a.1 a.2)
-          (λ q h. let a = elsewhere m q apart (ring_is_too (next_of old) (previous_of old) (ring_of old) lists items list k m q h) in p.previous_other q a.0 a.2)
+          (λ q h. let a = elsewhere m q apart (ring_is_too (next_of old) (previous_of old)
+          (ring_of old) lists items list k m q h) in p.previous_other q a.0 a.2)
           (k.segment m)
 
   pub put_last : (l i : ℕ) → l < lists → i < items → ((m : ℕ) → has_item (list m) i ≡ false) → Puts old new (item_place i) (list_place l) (list_place l)
       → AreRings (next_of new) (previous_of new) (ring_of new) lists items (λ m. cond (nat_eq m l) (list l ++ i ∷ []) (list m))
   put_last l i in_lists in_items free p =
-      put l i (list_place l) (list l ++ i ∷ []) in_lists in_items free (k.ring_self l) (last_is (next_of old) (previous_of old) (ring_of old) lists items list k l) p
+      put l i (list_place l) (list l ++ i ∷ []) in_lists in_items free (k.ring_self l)
+      (last_is (next_of old) (previous_of old) (ring_of old) lists items list k l) p
       (subst (λ (qs : List ℕ). IsSegment (next_of new) (previous_of new) (list_place l) qs (list_place l)) (sym (map-append item_place (list l) (i ∷ [])))
       (segment_put_last old new (list_place l) (map item_place (list l)) (list_place l) (item_place i) (list_place l) p
       (different (next_of old) (previous_of old) (ring_of old) lists items list k l) (no_list_place (list l) l)
@@ -151,7 +156,8 @@ module _ (old new : List Place) (lists items : ℕ) (list : ℕ → List ℕ) (k
       only_one : (i j : ℕ) → has_item (i ∷ []) j ≡ true → j ≡ i
       only_one i j h = or_case (nat_eq i j) false h (λ e. sym (eq_is i j e)) (λ f. cc)
 
-  pub put_first : (l i : ℕ) → l < lists → i < items → ((m : ℕ) → has_item (list m) i ≡ false) → Puts old new (item_place i) (next_of old (list_place l)) (list_place l)
+  pub put_first : (l i : ℕ) → l < lists → i < items → ((m : ℕ) → has_item (list m) i ≡ false)
+      → Puts old new (item_place i) (next_of old (list_place l)) (list_place l)
       → AreRings (next_of new) (previous_of new) (ring_of new) lists items (λ m. cond (nat_eq m l) (i ∷ list l) (list m))
   put_first l i in_lists in_items free p =
       put l i (next_of old (list_place l)) (i ∷ list l) in_lists in_items free (first_is (next_of old) (previous_of old) (ring_of old) lists items list k l)
@@ -171,7 +177,8 @@ module _ (old new : List Place) (lists items : ℕ) (list : ℕ → List ℕ) (k
     segment = λ m. elim (by_number m l) [
       | inl e ↦ subst (λ (n : ℕ). IsSegment (next_of new) (previous_of new) (list_place n) (map item_place (others (list n) i)) (list_place n)) (sym e) cut
       | inr apart ↦
-          subst (λ (zs : List ℕ). IsSegment (next_of new) (previous_of new) (list_place m) (map item_place zs) (list_place m)) (sym (others_absent (list m) i (absent m apart))) (frame m apart)
+          subst (λ (zs : List ℕ). IsSegment (next_of new) (previous_of new) (list_place m) (map item_place zs) (list_place m))
+          (sym (others_absent (list m) i (absent m apart))) (frame m apart)
     ];
     once = λ m. others_different (list m) i (k.once m);
     small = λ m j h. k.small m j (others_has (list m) i j h).0;
@@ -208,7 +215,8 @@ module _ (old new : List Place) (lists items : ℕ) (list : ℕ → List ℕ) (k
 
       left_over : map item_place (others (list l) i) ≡ map item_place halves.0 ++ map item_place halves.1
       left_over =
-          ap (λ (zs : List ℕ). map item_place (others zs i)) halves.2 ∙ ap (map item_place) (others_split halves.0 i halves.1 (subst AllDifferent halves.2 (k.once l)))
+          ap (λ (zs : List ℕ). map item_place (others zs i)) halves.2
+          ∙ ap (map item_place) (others_split halves.0 i halves.1 (subst AllDifferent halves.2 (k.once l)))
           ∙ map-append item_place halves.0 halves.1
 
       cut : IsSegment (next_of new) (previous_of new) (list_place l) (map item_place (others (list l) i)) (list_place l)
@@ -231,12 +239,15 @@ module _ (old new : List Place) (lists items : ℕ) (list : ℕ → List ℕ) (k
       frame : (m : ℕ) → m ≢ l → IsSegment (next_of new) (previous_of new) (list_place m) (map item_place (list m)) (list_place m)
       frame m apart =
           segment_frame (next_of old) (previous_of old) (next_of new) (previous_of new) (list_place m) (map item_place (list m)) (list_place m)
-          (λ q h. t.next_other q (λ e. apart (same_list m l (sym (ring_is (next_of old) (previous_of old) (ring_of old) lists items list k m q h) ∙ ap (ring_of old) e ∙ before_is))))
-          (λ q h. t.previous_other q (λ e. apart (same_list m l (sym (ring_is_too (next_of old) (previous_of old) (ring_of old) lists items list k m q h) ∙ ap (ring_of old) e ∙ after_is))))
+          (λ q h. t.next_other q (λ e. apart (same_list m l (sym (ring_is (next_of old) (previous_of old) (ring_of old) lists items list k m q h)
+          ∙ ap (ring_of old) e ∙ before_is))))
+          (λ q h. t.previous_other q (λ e. apart (same_list m l
+          (sym (ring_is_too (next_of old) (previous_of old) (ring_of old) lists items list k m q h) ∙ ap (ring_of old) e ∙ after_is))))
           (k.segment m)
 
 -- the same links, and more lists and items
-pub grown : (next previous ring next' previous' ring' : ℕ → ℕ) (lists items lists' items' : ℕ) (list : ℕ → List ℕ) → AreRings next previous ring lists items list
+pub grown : (next previous ring next' previous' ring' : ℕ → ℕ) (lists items lists' items' : ℕ) (list : ℕ → List ℕ)
+    → AreRings next previous ring lists items list
     → ((p : ℕ) → next' p ≡ next p) → ((p : ℕ) → previous' p ≡ previous p) → ((p : ℕ) → ring' p ≡ ring p) → lists ≤ lists' → items ≤ items'
     → AreRings next' previous' ring' lists' items' list
 grown next previous ring next' previous' ring' lists items lists' items' list k n p r more_lists more_items = record {
@@ -251,7 +262,8 @@ grown next previous ring next' previous' ring' lists items lists' items' list k 
 }
 
 -- the same lists, told otherwise
-pub retold : (next previous ring : ℕ → ℕ) (lists items : ℕ) (list list' : ℕ → List ℕ) → ((l : ℕ) → list' l ≡ list l) → AreRings next previous ring lists items list
+pub retold : (next previous ring : ℕ → ℕ) (lists items : ℕ) (list list' : ℕ → List ℕ) → ((l : ℕ) → list' l ≡ list l)
+    → AreRings next previous ring lists items list
     → AreRings next previous ring lists items list'
 retold next previous ring lists items list list' same k = record {
   segment = λ l. subst (λ (xs : List ℕ). IsSegment next previous (list_place l) (map item_place xs) (list_place l)) (sym (same l)) (k.segment l);

@@ -2,6 +2,7 @@ pub mod Calls
 pub mod Growth
 pub mod Has
 pub mod Kept
+pub mod Opened
 pub mod Others
 pub mod Seen
 pub mod Segments

@@ -1,8 +1,8 @@
 -- A list without one of its numbers, and how many different numbers there are.
-use Rattle.std.proofs.Common.{◌≡◌, ◌≢◌, ℕ, zero, suc, ◌+◌, ◌<◌, ◌≤◌, List, [], ◌∷◌, ◌++◌, length, ◌⊎◌, inl, inr, Bool, true, false, cond, not, nat_eq, ◌||◌, refl, sym, ap, ◌∙◌, subst, arith}
+use Rattle.std.proofs.Common.{◌≡◌, ◌≢◌, ℕ, zero, suc, ◌<◌, ◌≤◌, List, [], ◌∷◌, ◌++◌, length, inl, inr, Bool, true, false, cond, not, nat_eq, refl, sym, ap, ◌∙◌, subst, arith}
 use Rattle.fr_links.specs.Lists.{has_item, others}
 use Rattle.fr_links.specs.Rings.{AllDifferent}
-use Rattle.fr_links.proofs.Has.{by_number, by_truth, cons_absent, differ, eq_apart, eq_is, eq_self, here, or_case, or_none, there, true_false}
+use Rattle.fr_links.proofs.Has.{by_truth, differ, eq_apart, eq_is, eq_self, here, or_case, or_none, there, true_false}
 
 -- how the head decides
 at_same : (x : ℕ) (xs : List ℕ) (i : ℕ) → nat_eq x i ≡ true → others (x ∷ xs) i ≡ others xs i

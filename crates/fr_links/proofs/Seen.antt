@@ -1,20 +1,22 @@
 -- What following the places of a ring shows.
-use Rattle.std.proofs.Common.{◌≡◌, ◌≢◌, ℕ, zero, suc, ◌+◌, ◌*◌, ◌/◌, ◌<◌, ◌≤◌, List, [], ◌∷◌, length, map, ◌⊎◌, inl, inr, Option, Some, None, Bool, true, false, slice_get, refl, sym, ap, ◌∙◌, subst, arith, add-one}
+use Rattle.std.proofs.Common.{◌≡◌, ℕ, zero, suc, ◌/◌, ◌≤◌, List, [], ◌∷◌, length, map, ◌⊎◌, inl, inr, Some, None, true, slice_get, refl, sym, ap, ◌∙◌, subst}
 use Rattle.std.proofs.lemmas.List.{length-map}
 use Rattle.fr_links.specs.declared.place.Place.{Place}
 use Rattle.fr_links.specs.Lists.{has_item}
-use Rattle.fr_links.specs.Rings.{AreRings, IsSegment, item_place, items_in, list_place, next_of, places_from, previous_of, ring_of}
+use Rattle.fr_links.specs.Rings.{AreRings, IsSegment, item_place, items_in, list_place, next_of, previous_of, ring_of}
 use Rattle.fr_links.proofs.Has.{halves, here, no_list_place, there}
 use Rattle.fr_links.proofs.Kept.{retold}
 use Rattle.fr_links.proofs.Others.{few_different}
 use Rattle.fr_links.proofs.Segments.{seen}
 
-module _ (places : List Place) (lists items : ℕ) (list : ℕ → List ℕ) (k : AreRings (next_of places) (previous_of places) (ring_of places) lists items list) where
+module _ (places : List Place) (lists items : ℕ) (list : ℕ → List ℕ)
+    (k : AreRings (next_of places) (previous_of places) (ring_of places) lists items list) where
   pub items_seen : (l : ℕ) → items_in places items l ≡ list l
   items_seen l =
       let few : length (list l) ≤ items = few_different items (list l) (k.once l) (k.small l) in
       let as_many : length (map item_place (list l)) ≤ items = subst (λ (n : ℕ). n ≤ items) (sym (length-map (list l) item_place)) few in
-      ap (map (λ place. place / 2)) (seen (next_of places) (previous_of places) items (list_place l) (map item_place (list l)) (list_place l) as_many (no_list_place (list l) l) (k.segment l))
+      ap (map (λ place. place / 2)) (seen (next_of places) (previous_of places) items (list_place l) (map item_place (list l)) (list_place l) as_many
+      (no_list_place (list l) l) (k.segment l))
       ∙ halves (list l)
 
   -- so the places are rings of what is seen

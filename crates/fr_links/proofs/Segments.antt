@@ -1,9 +1,9 @@
 -- How a ring goes on as a place is put in or taken out.
-use Rattle.std.proofs.Common.{◌≡◌, ◌≢◌, ℕ, zero, suc, ◌+◌, ◌<◌, ◌≤◌, List, [], ◌∷◌, ◌++◌, length, Bool, true, false, cond, nat_eq, refl, sym, ap, ◌∙◌, subst, arith}
+use Rattle.std.proofs.Common.{◌≡◌, ◌≢◌, ℕ, zero, suc, ◌≤◌, List, [], ◌∷◌, ◌++◌, length, Bool, true, false, cond, nat_eq, refl, sym, ap, ◌∙◌, subst, arith}
 use Rattle.fr_links.specs.declared.place.Place.{Place}
 use Rattle.fr_links.specs.Lists.{has_item}
-use Rattle.fr_links.specs.Rings.{AllDifferent, IsSegment, Puts, TakesOut, next_of, places_from, previous_of, ring_of}
-use Rattle.fr_links.proofs.Has.{differ, eq_is, eq_self, has_append_left, here, not_first, not_tail, or_case, or_none, there, true_false}
+use Rattle.fr_links.specs.Rings.{AllDifferent, IsSegment, Puts, TakesOut, next_of, places_from, previous_of}
+use Rattle.fr_links.proofs.Has.{differ, eq_self, has_append_left, here, not_first, not_tail, or_none, there, true_false}
 
 -- the same links, the same segment
 pub segment_frame : (next previous next' previous' : ℕ → ℕ) (a : ℕ) (ps : List ℕ) (b : ℕ)
@@ -41,10 +41,12 @@ module _ (next previous : ℕ → ℕ) where
   after_in a (z ∷ ps) x qs b s = after_in z ps x qs b s.2
 
   -- what is seen along a segment
-  pub seen : (fuel a : ℕ) (ps : List ℕ) (b : ℕ) → length ps ≤ fuel → has_item ps b ≡ false → IsSegment next previous a ps b → places_from fuel next b (next a) ≡ ps
+  pub seen : (fuel a : ℕ) (ps : List ℕ) (b : ℕ) → length ps ≤ fuel → has_item ps b ≡ false → IsSegment next previous a ps b
+      → places_from fuel next b (next a) ≡ ps
   seen zero a [] b le nb s = refl
   seen (suc k) a [] b le nb s =
-      ap (λ (i : ℕ). cond (nat_eq i b) [] (i ∷ places_from k next b (next i))) s.0 ∙ ap (λ (c : Bool). cond c [] (b ∷ places_from k next b (next b))) (eq_self b)
+      ap (λ (i : ℕ). cond (nat_eq i b) [] (i ∷ places_from k next b (next i))) s.0
+      ∙ ap (λ (c : Bool). cond c [] (b ∷ places_from k next b (next b))) (eq_self b)
   seen zero a (x ∷ ps) b le nb s = absurd (omega arith)
   seen (suc k) a (x ∷ ps) b le nb s =
       let n = or_none (nat_eq x b) (has_item ps b) nb in
@@ -86,7 +88,8 @@ module _ (old new : List Place) where
               (λ i h. p.next_other i (λ e. differ (y ∷ ps) i a h o.0 (e ∙ last)) (differ (y ∷ ps) i x h tail.1))
               (λ i h. p.previous_other i
               (λ e. not_first ps a y i h o.1.0 (apart_eq y a (λ t. a_y (sym t))) (e ∙ first))
-              (λ e. not_first ps a x i h (or_none (nat_eq y x) (has_item ps x) tail.1).1 (apart_eq x a (λ t. true_false (nat_eq a x) (ap (nat_eq a) t ∙ eq_self a) tail.0)) e))
+              (λ e. not_first ps a x i h (or_none (nat_eq y x) (has_item ps x) tail.1).1
+              (apart_eq x a (λ t. true_false (nat_eq a x) (ap (nat_eq a) t ∙ eq_self a) tail.0)) e))
               s.2,
         ),
       )
@@ -94,7 +97,8 @@ module _ (old new : List Place) where
       apart_eq : (i j : ℕ) → i ≢ j → nat_eq i j ≡ false
       apart_eq i j apart = grind arith
 
-  pub segment_out : (a : ℕ) (ps : List ℕ) (x : ℕ) (qs : List ℕ) (b : ℕ) → TakesOut old new x → AllDifferent (a ∷ (ps ++ x ∷ qs)) → has_item (ps ++ x ∷ qs) b ≡ false
+  pub segment_out : (a : ℕ) (ps : List ℕ) (x : ℕ) (qs : List ℕ) (b : ℕ) → TakesOut old new x → AllDifferent (a ∷ (ps ++ x ∷ qs))
+      → has_item (ps ++ x ∷ qs) b ≡ false
       → IsSegment (next_of old) (previous_of old) a (ps ++ x ∷ qs) b → IsSegment (next_of new) (previous_of new) a (ps ++ qs) b
   segment_out a [] x [] b t o nb s =
       let p : previous_of old x ≡ a = s.1 in
@@ -107,12 +111,15 @@ module _ (old new : List Place) where
         ap (previous_of new) (sym n) ∙ t.previous_after ∙ p,
         segment_frame (next_of old) (previous_of old) (next_of new) (previous_of new) y qs b
             (λ i h. t.next_other i (λ e. differ (x ∷ y ∷ qs) i a (there x i (y ∷ qs) h) o.0 (e ∙ p)))
-            (λ i h. t.previous_other i (λ e. not_first qs b y i h o.1.1.0 (or_none (nat_eq y b) (has_item qs b) (or_none (nat_eq x b) (has_item (y ∷ qs) b) nb).1).0 (e ∙ n)))
+            (λ i h. t.previous_other i (λ e. not_first qs b y i h o.1.1.0
+            (or_none (nat_eq y b) (has_item qs b) (or_none (nat_eq x b) (has_item (y ∷ qs) b) nb).1).0 (e ∙ n)))
             s.2.2,
       )
   segment_out a (z ∷ ps) x qs b t o nb s =
       let before : has_item (z ∷ ps) (previous_of old x) ≡ true = before_in (next_of old) (previous_of old) z ps x qs b s.2 in
-      let a_p : a ≢ previous_of old x = λ e. differ (z ∷ (ps ++ x ∷ qs)) (previous_of old x) a (has_append_left (z ∷ ps) (x ∷ qs) (previous_of old x) before) o.0 (sym e) in
+      let a_p : a ≢ previous_of old x = λ e. differ (z ∷ (ps ++ x ∷ qs)) (previous_of old x) a
+      (has_append_left (z ∷ ps) (x ∷ qs) (previous_of old x) before) o.0 (sym e) in
       let later : has_item (qs ++ b ∷ []) (next_of old x) ≡ true = after_in (next_of old) (previous_of old) z ps x qs b s.2 in
-      let z_n : z ≢ next_of old x = λ e. not_first qs b z (next_of old x) later (not_tail ps x qs z o.1.0) (or_none (nat_eq z b) (has_item (ps ++ x ∷ qs) b) nb).0 (sym e) in
+      let z_n : z ≢ next_of old x = λ e. not_first qs b z (next_of old x) later (not_tail ps x qs z o.1.0)
+      (or_none (nat_eq z b) (has_item (ps ++ x ∷ qs) b) nb).0 (sym e) in
       (t.next_other a a_p ∙ s.0, t.previous_other z z_n ∙ s.1, segment_out z ps x qs b t o.1 (or_none (nat_eq z b) (has_item (ps ++ x ∷ qs) b) nb).1 s.2)

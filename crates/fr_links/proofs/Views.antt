@@ -1,5 +1,5 @@
 -- The list of lists that contracts see, by the items of each list.
-use Rattle.std.proofs.Common.{◌≡◌, ◌≢◌, ℕ, zero, suc, ◌+◌, ◌-◌, ◌<◌, ◌≤◌, List, [], ◌∷◌, ◌++◌, length, map, max, ◌⊎◌, inl, inr, Option, Some, None, IsSome, Bool, true, false, cond, get_or, nat_lt, position, slice_set, replicate, refl, sym, ap, ◌∙◌, subst, arith, get_or-set_same, get_or-set_other, length-set, length-append}
+use Rattle.std.proofs.Common.{◌≡◌, ◌≢◌, ℕ, ◌+◌, ◌-◌, ◌<◌, ◌≤◌, List, [], length, map, max, ◌⊎◌, inl, inr, Option, Some, None, IsSome, Bool, true, false, cond, get_or, nat_lt, slice_set, replicate, refl, sym, ap, ◌∙◌, subst, arith, get_or-set_same, get_or-set_other, length-set, length-append}
 use Rattle.std.specs.List.{position_or_len, range_with_len}
 use Rattle.std.proofs.lemmas.List.{get_or-append_right, get_or-map, get_or-replicate, get_or_append_left, get_or_past, length-map, length-replicate, same_lists}
 use Rattle.std.proofs.lemmas.List.FromFn.{get_or-map-range_with_len, length-map-range_with_len}
@@ -29,7 +29,8 @@ view_set f g n l xs lt at_l others =
     elim (by_number m l) [
       | inl e ↦
           at_by g n m d in_n ∙ ap g e ∙ at_l
-          ∙ sym (ap (λ (k : ℕ). get_or (slice_set (lists_by f n) l xs) k d) e ∙ get_or-set_same (lists_by f n) l xs d (subst (λ (k : ℕ). l < k) (sym (length_by f n)) lt))
+          ∙ sym (ap (λ (k : ℕ). get_or (slice_set (lists_by f n) l xs) k d) e
+          ∙ get_or-set_same (lists_by f n) l xs d (subst (λ (k : ℕ). l < k) (sym (length_by f n)) lt))
       | inr apart ↦ at_by g n m d in_n ∙ others m apart ∙ sym (get_or-set_other (lists_by f n) l m xs d apart ∙ at_by f n m d in_n)
     ])
 
@@ -37,7 +38,8 @@ pub view_map : (f g : ℕ → List ℕ) (h : List ℕ → List ℕ) (n : ℕ) �
 view_map f g h n each =
     same_lists (lists_by g n) (map h (lists_by f n)) (length_by g n ∙ sym (length-map (lists_by f n) h ∙ length_by f n))
     (λ m d inside. let in_n : m < n = subst (λ (k : ℕ). m < k) (length_by g n) inside in
-    at_by g n m d in_n ∙ each m ∙ sym (ap h (at_by f n m [] in_n)) ∙ sym (get_or-map h (lists_by f n) m [] d (subst (λ (k : ℕ). m < k) (sym (length_by f n)) in_n)))
+    at_by g n m d in_n ∙ each m ∙ sym (ap h (at_by f n m [] in_n))
+    ∙ sym (get_or-map h (lists_by f n) m [] d (subst (λ (k : ℕ). m < k) (sym (length_by f n)) in_n)))
 
 pub view_grown : (f g : ℕ → List ℕ) (n many : ℕ) → ((m : ℕ) → g m ≡ f m) → ((m : ℕ) → n ≤ m → f m ≡ [])
     → map g (range_with_len 0 (max n many)) ≡ with_empty (map f (range_with_len 0 n)) many
@@ -51,12 +53,14 @@ view_grown f g n many each beyond =
 
     long : length (with_empty (lists_by f n) many) ≡ max n many
     long =
-        length-append (lists_by f n) (replicate (many - length (lists_by f n)) []) ∙ ap (λ (k : ℕ). length (lists_by f n) + k) (length-replicate (many - length (lists_by f n)) [])
+        length-append (lists_by f n) (replicate (many - length (lists_by f n)) [])
+        ∙ ap (λ (k : ℕ). length (lists_by f n) + k) (length-replicate (many - length (lists_by f n)) [])
         ∙ ap (λ (k : ℕ). k + (many - k)) (length_by f n) ∙ omega arith
 
     at_grown : (m : ℕ) (d : List ℕ) → m < max n many → f m ≡ get_or (with_empty (lists_by f n) many) m d
     at_grown m d in_n = elim (by_bound m n) [
-      | inl lt ↦ sym (get_or_append_left (lists_by f n) (replicate (many - length (lists_by f n)) []) d m (subst (λ (k : ℕ). m < k) (sym (length_by f n)) lt) ∙ at_by f n m d lt)
+      | inl lt ↦ sym (get_or_append_left (lists_by f n) (replicate (many - length (lists_by f n)) []) d m
+          (subst (λ (k : ℕ). m < k) (sym (length_by f n)) lt) ∙ at_by f n m d lt)
       | inr le ↦
           let same : length (lists_by f n) ≡ n = length_by f n in
           beyond m le

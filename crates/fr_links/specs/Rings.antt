@@ -1,5 +1,5 @@
 -- How the lists lie in one vector of places, each list as a ring through a place of its own.
-use Rattle.std.specs.Prelude.{◌≡◌, ◌≢◌, ℕ, zero, suc, ◌+◌, ◌*◌, ◌/◌, ◌^◌, ◌<◌, ◌≤◌, ◌⊎◌, List, [], ◌∷◌, ◌++◌, length, map, Bool, true, false, cond, nat_eq, slice_index_or}
+use Rattle.std.specs.Prelude.{◌≡◌, ◌≢◌, ℕ, zero, suc, ◌+◌, ◌*◌, ◌/◌, ◌^◌, ◌<◌, ◌≤◌, ◌⊎◌, List, [], ◌∷◌, length, map, true, false, cond, nat_eq, slice_index_or}
 use Rattle.std.specs.List.{range_with_len}
 use Rattle.fr_links.specs.declared.place.Place.{Place}
 use Rattle.fr_links.specs.Lists.{Linked, has_item}

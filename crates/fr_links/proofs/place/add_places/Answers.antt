@@ -1,4 +1,4 @@
-use Rattle.std.proofs.Common.{◌≡◌, ℕ, ◌<◌, ◌≤◌, ◌+◌, length, sym, ap, ◌∙◌, subst, refl, arith, is_ok, List, ◌∷◌, [], ◌++◌, if◌then◌else◌}
+use Rattle.std.proofs.Common.{sym, ap, ◌∙◌, arith, List}
 use Rattle.fr_links.specs.declared.place.Place.{Place}
 use Rattle.fr_links.specs.Rings.{place_at}
 use Rattle.fr_links.proofs.Growth.{added_alone}
