@@ -10,6 +10,8 @@ mod errors;
 #[cfg(test)]
 mod files;
 #[cfg(test)]
+mod graph;
+#[cfg(test)]
 mod limits;
 #[cfg(test)]
 mod names;
