@@ -1,5 +1,5 @@
 -- What a copy of an expression is made of, shape by shape.
-use Rattle.std.proofs.Common.{◌≡◌, List, [], ◌∷◌, map, Option, Some, None, refl, sym, ap, ◌∙◌}
+use Rattle.std.proofs.Common.{◌≡◌, List, [], ◌∷◌, map, Option, Some, None, refl, ap, ◌∙◌}
 use Rattle.fr_value.specs.declared.ids.FunId.{FunId}
 use Rattle.fr_value.specs.declared.ids.VarId.{VarId}
 use Rattle.fr_value.specs.declared.ids.SrcId.{SrcId}
