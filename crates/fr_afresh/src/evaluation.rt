@@ -112,6 +112,7 @@ pub fn eval(
 }
 
 /// Evaluates parts from left to right.
+#[inline(never)]
 #[cycle(eval)]
 fn eval_parts(
     world: &World<'_>,
@@ -239,6 +240,7 @@ fn eval_operator(
     operator_done(world.alloc(), operator, before.cell, parts)
 }
 
+#[inline(never)]
 #[cycle(eval)]
 fn eval_handler(
     world: &World<'_>,
@@ -264,6 +266,7 @@ fn eval_handler(
 }
 
 /// A handler's body, called with these arguments.
+#[inline(never)]
 #[cycle(eval)]
 fn eval_called(
     world: &World<'_>,
@@ -282,6 +285,7 @@ fn eval_called(
     Ok(done)
 }
 
+#[inline(never)]
 #[cycle(eval)]
 fn eval_loop(
     world: &World<'_>,
@@ -360,6 +364,7 @@ fn eval_turn(
     turned(number, first, turn)
 }
 
+#[inline(never)]
 #[cycle(eval)]
 fn eval_feedback(
     world: &World<'_>,
