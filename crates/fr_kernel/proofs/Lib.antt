@@ -2,3 +2,4 @@ mod Runs
 mod Numbers
 mod Copies
 mod Tables
+mod Operands

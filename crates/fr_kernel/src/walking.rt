@@ -1,10 +1,12 @@
 //! The walk over an expression: one function for each shape of a pure form.
-ghost use Rattle.std.specs.Prelude.{◌≡◌, ◌≤◌, ◌∷◌, ◌+◌, false, MatchOption, length, slice_get};
+ghost use Rattle.std.specs.Prelude.{◌≡◌, ◌≤◌, ◌∷◌, ◌+◌, [], false, MatchOption, length, slice_get};
 ghost use Rattle.std.specs.Option.{option_copied, option_or};
 ghost use Rattle.fr_core.specs.Classes.{is_prim};
 ghost use Rattle.fr_core.specs.declared.kept.Kept.{Kept};
 ghost use Rattle.fr_core.specs.declared.core_form.Operator.TheVariants as operator;
-ghost use Rattle.fr_meaning.specs.Words.{own, part};
+ghost use Rattle.fr_value.specs.declared.value.Value.TheVariants as value;
+ghost use Rattle.fr_meaning.specs.Primitives.{applied};
+ghost use Rattle.fr_meaning.specs.Words.{own, part, plain};
 ghost use Rattle.fr_meaning.specs.Cells.{child};
 ghost use Rattle.fr_meaning.specs.States.{no_call, of_operator};
 ghost use Rattle.fr_meaning.specs.Evaluation.{parts, let_done, choose, switch_done, call_done, body_for, body_with, turns, all_turns, rounds, loop_done, state_done};
@@ -12,9 +14,10 @@ ghost use Rattle.fr_lines.specs.Rounds.{bound, number_of, rounds_left};
 ghost use Rattle.fr_kernel.specs.Answers.{here, scope, Answers, Tells, HoldsOr};
 
 use crate::fuel::KernStop;
+use crate::integers::{apply_second, leaf_int, table_ints};
 use crate::machine::{
     Kind, Machine, apply_held, bind_held, bind_turn, cut_slots, give, give_literal, give_slot,
-    hold, spend, stopped, take_held, tested, value_of,
+    hold, int, spend, stopped, take_held, tested, value_of,
 };
 use fr_core::{Core, Function, Loop, Operator};
 use fr_lines::{Round, Rounds, Seen, rounds_of, share_part};
@@ -43,6 +46,17 @@ fn primitive_of(operator: Operator) -> Option<Primitive>
 {
     match operator {
         Operator::Prim(prim) => Some(prim),
+        _ => None,
+    }
+}
+
+/// The parts of a form that has two.
+#[inline(always)]
+fn pair_of(exprs: &[Core]) -> Option<(&Core, &Core)>
+    ensures { MatchOption result (Unit {0}) (λ p. exprs.now ≡ p.0.now ∷ p.1.now ∷ []) }
+{
+    match exprs {
+        [a, b] => Some((a, b)),
         _ => None,
     }
 }
@@ -181,6 +195,102 @@ fn walk_operator(
 
 #[cycle(walk)]
 fn walk_prim(
+    alloc: Global,
+    functions: &[Function],
+    left: u32,
+    m: &mut Machine,
+    base: usize,
+    prim: Primitive,
+    exprs: &[Core],
+) -> Kind
+    requires { base ≤ length m.old.slots }
+    ensures { (k : Kept) → Tells result m.old m.new (state_done (here functions.now left) (scope base m.old) k (of_operator (operator.Prim prim)) exprs.now no_call) }
+{
+    match pair_of(exprs) {
+        Some(pair) => walk_two(alloc, functions, left, m, base, prim, pair.0, pair.1),
+        None => walk_many(alloc, functions, left, m, base, prim, exprs),
+    }
+}
+
+/// A primitive over two parts: integers are neither held nor copied.
+#[cycle(walk)]
+fn walk_two(
+    alloc: Global,
+    functions: &[Function],
+    left: u32,
+    m: &mut Machine,
+    base: usize,
+    prim: Primitive,
+    a: &Core,
+    b: &Core,
+) -> Kind
+    requires { base ≤ length m.old.slots }
+    ensures { (k : Kept) → Tells result m.old m.new (state_done (here functions.now left) (scope base m.old) k (of_operator (operator.Prim prim)) (a.now ∷ b.now ∷ []) no_call) }
+{
+    let held = m.held.len();
+    let first = operand(alloc, functions, left, m, base, a);
+    if let Kind::Int = first {
+        let x = m.int;
+        return walk_second(alloc, functions, left, m, base, prim, x, b);
+    }
+    if !hold(m, first) {
+        return Kind::Stop;
+    }
+    let second = operand(alloc, functions, left, m, base, b);
+    if !hold(m, second) {
+        return Kind::Stop;
+    }
+    apply_held(alloc, m, prim, held)
+}
+
+/// The second part of a primitive whose first is an integer, and the primitive over both.
+#[cycle(walk)]
+#[inline(always)]
+fn walk_second(
+    alloc: Global,
+    functions: &[Function],
+    left: u32,
+    m: &mut Machine,
+    base: usize,
+    prim: Primitive,
+    x: i64,
+    b: &Core,
+) -> Kind
+    requires { base ≤ length m.old.slots }
+    ensures { (k : Kept) → let d = here functions.now left b.now (scope base m.old) k in let v = applied prim (plain (value.Int x) ∷ d.value ∷ []) in Answers result m.old m.new v d.cost (option_or d.first (own v)) }
+{
+    let second = operand(alloc, functions, left, m, base, b);
+    match second {
+        Kind::Int => {
+            let y = m.int;
+            table_ints(alloc, m, prim, x, y)
+        }
+        _ => apply_second(alloc, m, prim, x, second),
+    }
+}
+
+/// A part that may be an integer that is read in place.
+#[cycle(walk)]
+#[inline(always)]
+fn operand(
+    alloc: Global,
+    functions: &[Function],
+    left: u32,
+    m: &mut Machine,
+    base: usize,
+    expr: &Core,
+) -> Kind
+    requires { base ≤ length m.old.slots }
+    ensures { (k : Kept) → Tells result m.old m.new (here functions.now left expr.now (scope base m.old) k) }
+{
+    match leaf_int(left, m.slots.as_slice(), base, expr) {
+        Some(n) => int(m, n),
+        None => walk(alloc, functions, left, m, base, expr),
+    }
+}
+
+#[cycle(walk)]
+fn walk_many(
     alloc: Global,
     functions: &[Function],
     left: u32,
