@@ -3,3 +3,4 @@ mod Numbers
 mod Copies
 mod Tables
 mod Operands
+mod Purity

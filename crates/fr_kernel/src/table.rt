@@ -8,7 +8,7 @@ ghost use Rattle.fr_meaning.specs.Evaluation.{world_of, eval};
 ghost use Rattle.fr_kernel.specs.Answers.{Ran};
 ghost use Rattle.fr_kernel.specs.Numbers.{Stand};
 ghost use Rattle.fr_kernel.specs.Placed.{scheme_of};
-ghost use Rattle.fr_kernel.specs.Tables.{kern_of, IsKernel};
+ghost use Rattle.fr_kernel.specs.Tables.{kern_of, IsKernel, HasPure};
 ghost use Rattle.fr_kernel.specs.declared.names.Names.{Names as AnyNames};
 
 use crate::fuel::{Fuel, KernStop};
@@ -79,7 +79,8 @@ impl KernTable {
     }
 }
 
-/// Runs a kernel over the values of its slots, at a nest.
+/// Runs a kernel over the values of its slots, at a nest. It is that of a pure expression of a program with the table's
+/// functions.
 ///
 /// Ok gives the value of evaluating the kernel's expression at that nest, wherever the variables and sources that it
 /// names have these values and whatever was kept; nothing errs in that evaluation, and exactly its cost was spent. `Bad`
@@ -94,7 +95,8 @@ pub fn run_kern(
     machine: &mut Machine,
     fuel: &mut Fuel,
 ) -> Result<Now, KernStop>
-    requires { id.0 < length table.now.kernels }
+    requires number { id.0 < length table.now.kernels }
+    requires pure { HasPure table.now id.0 }
     ensures { (p : AnyProgram) (n : AnyNames) (e : Expr) (sources : List Value_now) (env : Env) → IsKernel table.now id.0 p n e → Stand (scheme_of n) e sources env (map (λ v. Ok v) inputs.now) → (k : Kept) → Ran result fuel.old.left fuel.new.left (eval (world_of p sources) nest e env k) }
 {
     let functions = table.functions.as_slice();

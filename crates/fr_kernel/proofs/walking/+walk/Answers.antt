@@ -9,7 +9,7 @@ use Rattle.fr_meaning.specs.Primitives.{applied}
 use Rattle.fr_meaning.specs.States.{gives}
 use Rattle.fr_kernel.proofs.Operands.{two_parts, int_then, ints_then, holds_two, first_stop, second_stop}
 use Rattle.fr_core.specs.declared.core_form.Core.{out-Core}
-use Rattle.fr_core.specs.declared.core_form.Core.TheVariants.{outs-Lit, outs-Var, outs-Source, outs-Let, outs-If, outs-Apply, outs-Operator, outs-Loop}
+use Rattle.fr_core.specs.declared.core_form.Core.TheVariants.{outs-Lit, outs-Var, outs-Source, outs-Let, outs-If, outs-Apply, outs-Operator, outs-Handler, outs-Loop, outs-Feedback}
 use Rattle.fr_core.specs.declared.kept.Kept.{Kept}
 use Rattle.fr_core.specs.declared.kept.Kept.TheVariants as kept
 use Rattle.fr_meaning.specs.Cells.{child}
@@ -19,6 +19,7 @@ use Rattle.fr_lines.specs.Rounds.{bound}
 use Rattle.fr_kernel.specs.declared.machine.Machine.{Machine}
 use Rattle.fr_kernel.specs.Answers.{here, scope, Answers, Tells}
 use Rattle.fr_kernel.proofs.Runs.{let_tells, call_tells, turn_tells, enters, told, onward, onward_stop, puts, puts_none, prim_tells, next_part, within_entered, within_held}
+use Rattle.fr_kernel.proofs.Purity.{pure_if, pure_let, pure_loop, pure_operator, pure_call, no_handler, no_feedback, pure_at}
 use Rattle.fr_kernel.proofs.walking.+walk.Goals as goal
 
 pub walk-returns-then-left-eq0 : goal.walk-returns-then-left-eq0
@@ -43,8 +44,8 @@ walk-returns-in-Operator t c =
     let h = rw c.as_slice.ensures at c.walk_operator.ensures in
     λ k. rw (at_level c.args.left _ _ _ _ _ c.if-left-eq0.false (ap out-Core c.in-Operator.is ∙ outs-Operator _ _)) (h k)
 
-pub walk_operator-returns-in-Some : goal.walk_operator-returns-in-Some
-walk_operator-returns-in-Some t c = λ k. rw c.in-Some.ensures (c.walk_prim.ensures k)
+pub walk_operator-returns : goal.walk_operator-returns
+walk_operator-returns t c = λ k. rw c.in-Some.ensures (c.walk_prim.ensures k)
 
 pub walk-returns-in-Let : goal.walk-returns-in-Let
 walk-returns-in-Let t c =
@@ -73,31 +74,31 @@ pub walk_if-walk-requires : goal.walk_if-walk-requires
 walk_if-walk-requires t c =
     let d = here c.args.functions.now c.args.left c.args.test.now (scope c.args.base c.args.m.now) kept.Nothing in
     let g = told c.walk-kind.result c.args.m.now c.walk-kind.new.m c.tested.new.m d.value d.cost d.first c.in-Some-true.field-0 c.in-Some-true.ensures (c.walk-kind.ensures kept.Nothing) in
-    (search rules, within_entered c.args.base c.args.m.now c.tested.new.m [] g.1.slots c.requires)
+    (search rules, (within_entered c.args.base c.args.m.now c.tested.new.m [] g.1.slots c.requires.slots, c.requires.first))
 
 pub walk_if-walk-requires-in-Some-false : goal.walk_if-walk-requires-in-Some-false
 walk_if-walk-requires-in-Some-false t c =
     let d = here c.args.functions.now c.args.left c.args.test.now (scope c.args.base c.args.m.now) kept.Nothing in
     let g = told c.walk-kind.result c.args.m.now c.walk-kind.new.m c.tested.new.m d.value d.cost d.first c.in-Some-false.field-0 c.in-Some-false.ensures (c.walk-kind.ensures kept.Nothing) in
-    (search rules, within_entered c.args.base c.args.m.now c.tested.new.m [] g.1.slots c.requires)
+    (search rules, (within_entered c.args.base c.args.m.now c.tested.new.m [] g.1.slots c.requires.slots, c.requires.second))
 
 pub walk_let-walk-kind-requires : goal.walk_let-walk-kind-requires
 walk_let-walk-kind-requires t c =
     let ps = parts (here c.args.functions.now c.args.left) (scope c.args.base c.args.m.now) kept.Nothing 0 c.args.exprs.now in
     let e = rw c.len-held.ensures at c.if-not-bind_held.ensures in
     let g = enters c.args.m.now c.walk_parts.new.m c.bind_held.new.m ps.values ps.cost ps.first (c.if-not-walk_parts.ensures kept.Nothing) e in
-    (search rules, within_entered c.args.base c.args.m.now c.bind_held.new.m ps.values g.slots c.requires)
+    (search rules, (within_entered c.args.base c.args.m.now c.bind_held.new.m ps.values g.slots c.requires.slots, c.requires.body))
 
 pub walk_let-returns : goal.walk_let-returns
 walk_let-returns t c =
     let e = rw c.len-held.ensures at c.if-not-bind_held.ensures in
     λ k. rw (c.cut_slots.ensures, c.len-outer.ensures) (let_tells c.args.functions.now c.args.left c.args.base k c.walk-kind.result c.args.m.now c.walk_parts.new.m c.bind_held.new.m c.walk-kind.new.m c.args.exprs.now c.args.body.now
-    c.requires (c.if-not-walk_parts.ensures k) e (c.walk-kind.ensures (child k (length c.args.exprs.now))))
+    c.requires.slots (c.if-not-walk_parts.ensures k) e (c.walk-kind.ensures (child k (length c.args.exprs.now))))
 
 pub walk_loop-walk_rounds-requires : goal.walk_loop-walk_rounds-requires
 walk_loop-walk_rounds-requires t c =
     let h = c.if-not-walk_parts.ensures kept.Nothing in
-    (search rules, rw (ap (λ (m : Machine). m.slots) c.in-Ok.ensures.1, h.slots) c.requires)
+    (search rules, (rw (ap (λ (m : Machine). m.slots) c.in-Ok.ensures.1, h.slots) c.requires.slots, c.requires.body))
 
 pub walk_parts-returns-then-not-hold : goal.walk_parts-returns-then-not-hold
 walk_parts-returns-then-not-hold t c =
@@ -136,7 +137,7 @@ walk_many-apply_held-requires t c =
 
 pub walk_turn-returns : goal.walk_turn-returns
 walk_turn-returns t c = rw (c.cut_slots.ensures, c.len-outer.ensures) (turn_tells c.args.functions.now c.args.left c.args.base c.walk-kind.result c.args.m.now c.spend.new.m c.bind_turn.new.m c.walk-kind.new.m c.args.body.now
-    (c.args.acc ∷ bound c.args.item) c.requires c.if-not-spend.ensures c.if-not-bind_turn.ensures c.walk-kind.ensures)
+    (c.args.acc ∷ bound c.args.item) c.requires.slots c.if-not-spend.ensures c.if-not-bind_turn.ensures c.walk-kind.ensures)
 
 pub walk_prim-returns-in-Some : goal.walk_prim-returns-in-Some
 walk_prim-returns-in-Some t c = λ k. rw c.in-Some.ensures (c.walk_two.ensures k)
@@ -144,7 +145,7 @@ walk_prim-returns-in-Some t c = λ k. rw c.in-Some.ensures (c.walk_two.ensures k
 pub walk_two-walk_second-requires : goal.walk_two-walk_second-requires
 walk_two-walk_second-requires t c =
     let h = rw c.in-Int.is at c.operand-first.ensures in
-    (search rules, rw (h kept.Nothing).slots c.requires)
+    (search rules, (rw (h kept.Nothing).slots c.requires.slots, c.requires.second))
 
 pub walk_two-returns-in-Int : goal.walk_two-returns-in-Int
 walk_two-returns-in-Int t c =
@@ -163,7 +164,7 @@ pub walk_two-operand-second-requires : goal.walk_two-operand-second-requires
 walk_two-operand-second-requires t c =
     let d = here c.args.functions.now c.args.left c.args.a.now (scope c.args.base c.args.m.now) kept.Nothing in
     let h = puts c.operand-first.result c.args.m.now c.operand-first.new.m c.hold.new.m d.value d.cost d.first c.if-not-hold.ensures (c.operand-first.ensures kept.Nothing) in
-    (search rules, rw h.slots c.requires)
+    (search rules, (rw h.slots c.requires.slots, c.requires.second))
 
 pub walk_two-returns-then-not-hold : goal.walk_two-returns-then-not-hold
 walk_two-returns-then-not-hold t c =
@@ -226,3 +227,40 @@ operand-returns-in-Some t c =
     let fits : SFits w64 c.in-Some.n = search rules in
     let put = rw (to_z-of_z w64 c.in-Some.n fits) at c.int.ensures.1 in
     λ k. rw (leaf c.args.functions.now k, c.int.ensures.0, put) (record { value = refl; good = refl; clean = refl; paid = omega arith; slots = refl; held = refl })
+
+pub walk-walk_if-requires : goal.walk-walk_if-requires
+walk-walk_if-requires t c =
+    let ps = pure_if c.args.functions.now c.args.expr.now _ _ _ (ap out-Core c.in-If.is ∙ outs-If _ _ _) c.requires.pure in
+    (search rules, (c.requires.slots, rw (c.get.ensures, c.get-in-If.ensures, c.get-in-If-2.ensures) (ps.0, (ps.1, ps.2))))
+
+pub walk-walk_operator-requires : goal.walk-walk_operator-requires
+walk-walk_operator-requires t c =
+    let ps = pure_operator c.args.functions.now c.args.expr.now _ _ (ap out-Core c.in-Operator.is ∙ outs-Operator _ _) c.requires.pure in
+    (search rules, (c.requires.slots, rw c.as_slice.ensures ps))
+
+pub walk-walk_let-requires : goal.walk-walk_let-requires
+walk-walk_let-requires t c =
+    let ps = pure_let c.args.functions.now c.args.expr.now _ _ (ap out-Core c.in-Let.is ∙ outs-Let _ _) c.requires.pure in
+    (search rules, (c.requires.slots, rw (c.as_slice-in-Let.ensures, c.get-in-Let.ensures) ps))
+
+pub walk-walk_call-requires : goal.walk-walk_call-requires
+walk-walk_call-requires t c =
+    let ps = pure_call c.args.functions.now c.args.expr.now _ _ (ap out-Core c.in-Apply.is ∙ outs-Apply _ _) c.requires.pure in
+    (search rules, (c.requires.slots, rw c.as_slice-in-Apply.ensures ps))
+
+pub walk-walk_loop-requires : goal.walk-walk_loop-requires
+walk-walk_loop-requires t c =
+    let ps = pure_loop c.args.functions.now c.args.expr.now _ _ _ (ap out-Core c.in-Loop.is ∙ outs-Loop _ _ _) c.requires.pure in
+    (search rules, (c.requires.slots, rw (c.as_slice-in-Loop.ensures, c.get-in-Loop.ensures) ps))
+
+pub walk-unreachable-requires : goal.walk-unreachable-requires
+walk-unreachable-requires t c = no_handler c.args.functions.now c.args.expr.now _ _ _ (ap out-Core c.in-Handler.is ∙ outs-Handler _ _ _) c.requires.pure
+
+pub walk-unreachable-requires-in-Feedback : goal.walk-unreachable-requires-in-Feedback
+walk-unreachable-requires-in-Feedback t c = no_feedback c.args.functions.now c.args.expr.now _ _ (ap out-Core c.in-Feedback.is ∙ outs-Feedback _ _) c.requires.pure
+
+pub walk_parts-walk-kind-requires : goal.walk_parts-walk-kind-requires
+walk_parts-walk-kind-requires t c =
+    let within : c.loop-i.i < length c.args.exprs.now = grind arith in
+    let pure = pure_at c.args.functions.now c.args.exprs.now c.loop-i.i c.index-exprs-i.result within c.index-exprs-i.is c.requires.pure in
+    (search rules, (rw c.loop-i.invariant.same_slots c.requires.slots, pure))
