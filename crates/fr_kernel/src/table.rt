@@ -1,4 +1,5 @@
-ghost use Rattle.std.specs.Prelude.{◌≡◌, ◌<◌, ◌++◌, ◌∷◌, [], IfOk, IfErr, Ok, map, length, List};
+ghost use Rattle.std.specs.Prelude.{◌≡◌, ◌<◌, ◌++◌, ◌∷◌, [], IfOk, IfErr, Ok, ℕ, map, length, List};
+ghost use Rattle.fr_core.specs.Classes.{IsPureExpr};
 ghost use Rattle.fr_value.specs.declared.now.Now.{Now as Value_now};
 ghost use Rattle.fr_core.specs.declared.core_form.Core.{Core as Expr};
 ghost use Rattle.fr_core.specs.declared.kept.Kept.{Kept};
@@ -67,9 +68,11 @@ impl KernTable {
     }
 
     /// Puts the kernel of an expression over these slots behind the others, and gives its number. Where there is no
-    /// memory the table is unchanged.
+    /// memory the table is unchanged. The kernel may be run if the expression is pure, and those before it as before.
     pub fn add(&mut self, alloc: Global, expr: &Core, names: Names) -> Result<KernId, AllocError>
         ensures added { IfOk result (λ id. (id.0 ≡ length self.old.kernels) × (self.new ≡ record self.old { kernels = self.old.kernels ++ kern_of names expr.now ∷ [] })) }
+        ensures pure { IfOk result (λ id. (p : AnyProgram) → self.old.functions ≡ p.functions → IsPureExpr p expr.now → HasPure self.new id.0) }
+        ensures others { IfOk result (λ id. (i : ℕ) → HasPure self.old i → HasPure self.new i) }
         ensures failed { IfErr result (λ e. self.new ≡ self.old) }
     {
         let code = place(alloc, Some(&names), u32::MAX, expr)?;
