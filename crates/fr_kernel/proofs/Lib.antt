@@ -2,3 +2,5 @@ mod Runs
 mod Numbers
 mod Copies
 mod Tables
+mod Operands
+mod Purity

@@ -28,7 +28,7 @@ use Rattle.fr_meaning.proofs.Pure.{named_sources_decide}
 use Rattle.fr_kernel.specs.Answers.{world}
 use Rattle.fr_kernel.specs.Numbers.{Scheme, around, width, variable_slot, source_slot, number_step, numbered, Every, Stand}
 
-both_true : (a b : Bool) → a && b ≡ true → (a ≡ true) × (b ≡ true)
+pub both_true : (a b : Bool) → a && b ≡ true → (a ≡ true) × (b ≡ true)
 both_true true true h = (refl, refl)
 both_true true false h = cc
 both_true false b h = cc
@@ -83,7 +83,7 @@ module _ (body body' : List Seen → Done) (h : (vs : List Seen) → bare (body 
 
 -- what a numbered expression opens to
 
-abbrev number_layer : Scheme → Core-F Core → Core-F Core
+abbrev pub number_layer : Scheme → Core-F Core → Core-F Core
 number_layer s (Core-F.Var x) = Core-F.Var (record { 0 = variable_slot s x.0 })
 number_layer s (Core-F.Source x) = Core-F.Var (record { 0 = source_slot s x.0 })
 number_layer s l = map-Core Core Core (numbered s) l
@@ -100,7 +100,7 @@ step_opens s (Core-F.Handler h es b) = outs-Handler _ _ _
 step_opens s (Core-F.Loop l es b) = outs-Loop _ _ _
 step_opens s (Core-F.Feedback a b) = outs-Feedback _ _
 
-numbered-opens : (s : Scheme) (e : Core) → out-Core (numbered s e) ≡ number_layer s (out-Core e)
+pub numbered-opens : (s : Scheme) (e : Core) → out-Core (numbered s e) ≡ number_layer s (out-Core e)
 unfolding numbered
 numbered-opens s e = ap out-Core (fold_out-Core Core (number_step s) e) ∙ step_opens s (out-Core e)
 

@@ -1,12 +1,12 @@
 -- What a run tells of an evaluation.
-use Rattle.std.specs.Prelude.{◌≡◌, ℕ, ◌+◌, ◌<◌, Bool, true, false, List, [], ◌∷◌, ◌++◌, take, drop, Option, Some, None, Result, Ok, Err}
+use Rattle.std.specs.Prelude.{◌≡◌, ℕ, ℤ, ◌+◌, ◌<◌, Bool, true, false, List, [], ◌∷◌, ◌++◌, take, drop, Option, Some, None, Result, Ok, Err}
 use Rattle.fr_value.specs.declared.now.Now.{Now}
 use Rattle.fr_value.specs.declared.now.Bad.{Bad}
 use Rattle.fr_value.specs.declared.now.Bad.TheVariants.{Deep}
 use Rattle.fr_value.specs.declared.value.Value.TheVariants as value
 use Rattle.fr_core.specs.declared.program.Function.{Function}
 use Rattle.fr_meaning.specs.Words.{Seen, Env, First, Done, own, plain, test_of}
-use Rattle.fr_meaning.specs.Evaluation.{World, Ev, eval_to}
+use Rattle.fr_meaning.specs.Evaluation.{World, Ev, leaf, eval_to}
 use Rattle.fr_kernel.specs.declared.machine.Kind.{Kind}
 use Rattle.fr_kernel.specs.declared.machine.Kind.TheVariants as kind
 use Rattle.fr_kernel.specs.declared.machine.Machine.{Machine}
@@ -156,3 +156,18 @@ pub record Pays (v : Now) (before after : ℕ) (d : Done) : Type 0 where
 abbrev pub Ran : Result Now KernStop → ℕ → ℕ → Done → Type 0
 Ran (Ok v) before after d = Pays v before after d
 Ran (Err s) before after d = StopsBy s before d.cost d.first
+
+-- an integer that is read in place is this value
+abbrev pub IntOr : Option ℤ → Seen → Type 0
+IntOr None v = Unit {0}
+IntOr (Some n) v = v ≡ plain (value.Int n)
+
+-- an integer that is read in place is what is evaluated
+abbrev pub LeafOr : Option ℤ → Done → Type 0
+LeafOr None d = Unit {0}
+LeafOr (Some n) d = d ≡ leaf (plain (value.Int n))
+
+-- these values were held behind the others, or memory is wanting
+abbrev pub PushesOr : Bool → Machine → Machine → List Seen → Type 0
+PushesOr true old new vs = new ≡ record old { held = old.held ++ vs }
+PushesOr false old new vs = IsWant new.stop

@@ -1,4 +1,5 @@
 pub mod Answers
 pub mod Numbers
 pub mod Placed
+pub mod Purity
 pub mod Tables

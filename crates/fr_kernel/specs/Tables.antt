@@ -18,3 +18,10 @@ pub record IsKernel (t : KernTable) (id : ℕ) (p : Program) (n : Names) (e : Co
   pub functions : t.functions ≡ p.functions
   pub kernel : slice_get t.kernels id ≡ Some (kern_of n e)
   pub pure : IsPureExpr p e
+
+-- the kernel of this number is that of a pure expression of a program with the table's functions
+pub record HasPure (t : KernTable) (id : ℕ) : Type 0 where
+  pub program : Program
+  pub names : Names
+  pub expr : Core
+  pub is : IsKernel t id program names expr

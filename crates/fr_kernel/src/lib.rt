@@ -2,6 +2,7 @@
 #![tactic(auto)]
 
 mod fuel;
+mod integers;
 mod laws;
 mod machine;
 mod names;

@@ -1,6 +1,7 @@
 ghost use Rattle.std.specs.Prelude.{◌≡◌, ◌-◌, Ok, map};
 ghost use Rattle.fr_core.specs.declared.kept.Kept.{Kept};
 ghost use Rattle.fr_meaning.specs.Evaluation.{eval};
+ghost use Rattle.fr_kernel.specs.Purity.{IsPureOver};
 ghost use Rattle.fr_kernel.specs.Answers.{world, scope, Ran};
 
 use crate::fuel::{Fuel, KernStop};
@@ -31,6 +32,7 @@ pub(crate) fn run(
     machine: &mut Machine,
     fuel: &mut Fuel,
 ) -> Result<Now, KernStop>
+    requires { IsPureOver functions.now expr.now }
     ensures { (k : Kept) → Ran result fuel.old.left fuel.new.left (eval (world functions.now) nest expr.now (map (λ n. Ok n) inputs.now) k) }
 {
     match begin(machine, inputs, fuel.left) {
@@ -48,6 +50,7 @@ fn run_begun(
     machine: &mut Machine,
     fuel: &mut Fuel,
 ) -> Result<Now, KernStop>
+    requires { IsPureOver functions.now expr.now }
     ensures { (k : Kept) → Ran result machine.old.fuel fuel.new.left (eval (world functions.now) nest expr.now (scope 0 machine.old) k) }
 {
     let kind = walk(alloc, functions, levels_from(nest), machine, 0, expr);

@@ -1,4 +1,5 @@
-ghost use Rattle.std.specs.Prelude.{◌≡◌, ◌<◌, ◌++◌, ◌∷◌, [], IfOk, IfErr, Ok, map, length, List};
+ghost use Rattle.std.specs.Prelude.{◌≡◌, ◌<◌, ◌++◌, ◌∷◌, [], IfOk, IfErr, Ok, ℕ, map, length, List};
+ghost use Rattle.fr_core.specs.Classes.{IsPureExpr};
 ghost use Rattle.fr_value.specs.declared.now.Now.{Now as Value_now};
 ghost use Rattle.fr_core.specs.declared.core_form.Core.{Core as Expr};
 ghost use Rattle.fr_core.specs.declared.kept.Kept.{Kept};
@@ -8,7 +9,7 @@ ghost use Rattle.fr_meaning.specs.Evaluation.{world_of, eval};
 ghost use Rattle.fr_kernel.specs.Answers.{Ran};
 ghost use Rattle.fr_kernel.specs.Numbers.{Stand};
 ghost use Rattle.fr_kernel.specs.Placed.{scheme_of};
-ghost use Rattle.fr_kernel.specs.Tables.{kern_of, IsKernel};
+ghost use Rattle.fr_kernel.specs.Tables.{kern_of, IsKernel, HasPure};
 ghost use Rattle.fr_kernel.specs.declared.names.Names.{Names as AnyNames};
 
 use crate::fuel::{Fuel, KernStop};
@@ -67,9 +68,11 @@ impl KernTable {
     }
 
     /// Puts the kernel of an expression over these slots behind the others, and gives its number. Where there is no
-    /// memory the table is unchanged.
+    /// memory the table is unchanged. The kernel may be run if the expression is pure, and those before it as before.
     pub fn add(&mut self, alloc: Global, expr: &Core, names: Names) -> Result<KernId, AllocError>
         ensures added { IfOk result (λ id. (id.0 ≡ length self.old.kernels) × (self.new ≡ record self.old { kernels = self.old.kernels ++ kern_of names expr.now ∷ [] })) }
+        ensures pure { IfOk result (λ id. (p : AnyProgram) → self.old.functions ≡ p.functions → IsPureExpr p expr.now → HasPure self.new id.0) }
+        ensures others { IfOk result (λ id. (i : ℕ) → HasPure self.old i → HasPure self.new i) }
         ensures failed { IfErr result (λ e. self.new ≡ self.old) }
     {
         let code = place(alloc, Some(&names), u32::MAX, expr)?;
@@ -79,7 +82,8 @@ impl KernTable {
     }
 }
 
-/// Runs a kernel over the values of its slots, at a nest.
+/// Runs a kernel over the values of its slots, at a nest. It is that of a pure expression of a program with the table's
+/// functions.
 ///
 /// Ok gives the value of evaluating the kernel's expression at that nest, wherever the variables and sources that it
 /// names have these values and whatever was kept; nothing errs in that evaluation, and exactly its cost was spent. `Bad`
@@ -94,7 +98,8 @@ pub fn run_kern(
     machine: &mut Machine,
     fuel: &mut Fuel,
 ) -> Result<Now, KernStop>
-    requires { id.0 < length table.now.kernels }
+    requires number { id.0 < length table.now.kernels }
+    requires pure { HasPure table.now id.0 }
     ensures { (p : AnyProgram) (n : AnyNames) (e : Expr) (sources : List Value_now) (env : Env) → IsKernel table.now id.0 p n e → Stand (scheme_of n) e sources env (map (λ v. Ok v) inputs.now) → (k : Kept) → Ran result fuel.old.left fuel.new.left (eval (world_of p sources) nest e env k) }
 {
     let functions = table.functions.as_slice();

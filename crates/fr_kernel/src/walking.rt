@@ -1,26 +1,30 @@
 //! The walk over an expression: one function for each shape of a pure form.
-ghost use Rattle.std.specs.Prelude.{◌≡◌, ◌≤◌, ◌∷◌, ◌+◌, false, MatchOption, length, slice_get};
+ghost use Rattle.std.specs.Prelude.{◌≡◌, ◌≤◌, ◌∷◌, ◌+◌, [], true, false, MatchOption, length, slice_get};
 ghost use Rattle.std.specs.Option.{option_copied, option_or};
 ghost use Rattle.fr_core.specs.Classes.{is_prim};
 ghost use Rattle.fr_core.specs.declared.kept.Kept.{Kept};
 ghost use Rattle.fr_core.specs.declared.core_form.Operator.TheVariants as operator;
-ghost use Rattle.fr_meaning.specs.Words.{own, part};
+ghost use Rattle.fr_value.specs.declared.value.Value.TheVariants as value;
+ghost use Rattle.fr_meaning.specs.Primitives.{applied};
+ghost use Rattle.fr_meaning.specs.Words.{own, part, plain};
 ghost use Rattle.fr_meaning.specs.Cells.{child};
 ghost use Rattle.fr_meaning.specs.States.{no_call, of_operator};
 ghost use Rattle.fr_meaning.specs.Evaluation.{parts, let_done, choose, switch_done, call_done, body_for, body_with, turns, all_turns, rounds, loop_done, state_done};
 ghost use Rattle.fr_forms.specs.Lent.{bound};
 ghost use Rattle.fr_forms.specs.Rounds.{number_of, rounds_left};
+ghost use Rattle.fr_kernel.specs.Purity.{IsPureOver, ArePureOver, IsPureCall};
 ghost use Rattle.fr_kernel.specs.Answers.{here, scope, Answers, Tells, HoldsOr};
 
 use crate::fuel::KernStop;
+use crate::integers::{apply_second, leaf_int, table_ints};
 use crate::machine::{
     Kind, Machine, apply_held, bind_held, bind_turn, cut_slots, give, give_literal, give_slot,
-    hold, spend, stopped, take_held, tested, value_of,
+    hold, int, spend, stopped, take_held, tested, value_of,
 };
 use fr_core::{Core, Function, Loop, Operator};
 use fr_forms::{Round, Rounds, Seen, rounds_of, share_part};
 use fr_value::{Bad, Primitive, Value};
-use std::alloc::{AllocError, Global};
+use std::alloc::Global;
 
 /// The body of a function that has so many parameters.
 fn function_body(functions: &[Function], at: u32, args: usize) -> Option<&Core>
@@ -48,6 +52,17 @@ fn primitive_of(operator: Operator) -> Option<Primitive>
     }
 }
 
+/// The parts of a form that has two.
+#[inline(always)]
+fn pair_of(exprs: &[Core]) -> Option<(&Core, &Core)>
+    ensures { MatchOption result (Unit {0}) (λ p. exprs.now ≡ p.0.now ∷ p.1.now ∷ []) }
+{
+    match exprs {
+        [a, b] => Some((a, b)),
+        _ => None,
+    }
+}
+
 /// Evaluates an expression that nests at most `left` levels deep, whose variables are the slots from `base` on.
 #[cycle(walk)]
 pub(crate) fn walk(
@@ -58,7 +73,8 @@ pub(crate) fn walk(
     base: usize,
     expr: &Core,
 ) -> Kind
-    requires { base ≤ length m.old.slots }
+    requires slots { base ≤ length m.old.slots }
+    requires pure { IsPureOver functions.now expr.now }
     ensures { (k : Kept) → Tells result m.old m.new (here functions.now left expr.now (scope base m.old) k) }
 {
     if left == 0 {
@@ -112,7 +128,8 @@ pub(crate) fn walk(
             exprs.as_slice(),
             body.get(),
         ),
-        _ => stopped(m, KernStop::Memory(AllocError)),
+        Core::Handler(_, _, _) => unreachable!(),
+        Core::Feedback(_, _) => unreachable!(),
     }
 }
 
@@ -126,7 +143,8 @@ fn walk_parts(
     base: usize,
     exprs: &[Core],
 ) -> bool
-    requires { base ≤ length m.old.slots }
+    requires slots { base ≤ length m.old.slots }
+    requires pure { ArePureOver functions.now exprs.now }
     ensures { (k : Kept) → let ps = parts (here functions.now left) (scope base m.old) k 0 exprs.now in HoldsOr result m.old m.new ps.values ps.cost ps.first }
 {
     for i in 0..exprs.len() {
@@ -149,7 +167,10 @@ fn walk_if(
     a: &Core,
     b: &Core,
 ) -> Kind
-    requires { base ≤ length m.old.slots }
+    requires slots { base ≤ length m.old.slots }
+    requires test { IsPureOver functions.now test.now }
+    requires first { IsPureOver functions.now a.now }
+    requires second { IsPureOver functions.now b.now }
     ensures { (k : Kept) → let t = here functions.now left test.now (scope base m.old) (child k 0) in Tells result m.old m.new (switch_done (here functions.now left) (scope base m.old) k t (choose a.now b.now t.value)) }
 {
     let kind = walk(alloc, functions, left, m, base, test);
@@ -171,12 +192,14 @@ fn walk_operator(
     operator: Operator,
     exprs: &[Core],
 ) -> Kind
-    requires { base ≤ length m.old.slots }
+    requires slots { base ≤ length m.old.slots }
+    requires primitive { is_prim operator ≡ true }
+    requires pure { ArePureOver functions.now exprs.now }
     ensures { (k : Kept) → Tells result m.old m.new (state_done (here functions.now left) (scope base m.old) k (of_operator operator) exprs.now no_call) }
 {
     match primitive_of(operator) {
         Some(prim) => walk_prim(alloc, functions, left, m, base, prim, exprs),
-        None => stopped(m, KernStop::Memory(AllocError)),
+        None => unreachable!(),
     }
 }
 
@@ -190,7 +213,109 @@ fn walk_prim(
     prim: Primitive,
     exprs: &[Core],
 ) -> Kind
-    requires { base ≤ length m.old.slots }
+    requires slots { base ≤ length m.old.slots }
+    requires pure { ArePureOver functions.now exprs.now }
+    ensures { (k : Kept) → Tells result m.old m.new (state_done (here functions.now left) (scope base m.old) k (of_operator (operator.Prim prim)) exprs.now no_call) }
+{
+    match pair_of(exprs) {
+        Some(pair) => walk_two(alloc, functions, left, m, base, prim, pair.0, pair.1),
+        None => walk_many(alloc, functions, left, m, base, prim, exprs),
+    }
+}
+
+/// A primitive over two parts: integers are neither held nor copied.
+#[cycle(walk)]
+fn walk_two(
+    alloc: Global,
+    functions: &[Function],
+    left: u32,
+    m: &mut Machine,
+    base: usize,
+    prim: Primitive,
+    a: &Core,
+    b: &Core,
+) -> Kind
+    requires slots { base ≤ length m.old.slots }
+    requires first { IsPureOver functions.now a.now }
+    requires second { IsPureOver functions.now b.now }
+    ensures { (k : Kept) → Tells result m.old m.new (state_done (here functions.now left) (scope base m.old) k (of_operator (operator.Prim prim)) (a.now ∷ b.now ∷ []) no_call) }
+{
+    let held = m.held.len();
+    let first = operand(alloc, functions, left, m, base, a);
+    if let Kind::Int = first {
+        let x = m.int;
+        return walk_second(alloc, functions, left, m, base, prim, x, b);
+    }
+    if !hold(m, first) {
+        return Kind::Stop;
+    }
+    let second = operand(alloc, functions, left, m, base, b);
+    if !hold(m, second) {
+        return Kind::Stop;
+    }
+    apply_held(alloc, m, prim, held)
+}
+
+/// The second part of a primitive whose first is an integer, and the primitive over both.
+#[cycle(walk)]
+#[inline(always)]
+fn walk_second(
+    alloc: Global,
+    functions: &[Function],
+    left: u32,
+    m: &mut Machine,
+    base: usize,
+    prim: Primitive,
+    x: i64,
+    b: &Core,
+) -> Kind
+    requires slots { base ≤ length m.old.slots }
+    requires pure { IsPureOver functions.now b.now }
+    ensures { (k : Kept) → let d = here functions.now left b.now (scope base m.old) k in let v = applied prim (plain (value.Int x) ∷ d.value ∷ []) in Answers result m.old m.new v d.cost (option_or d.first (own v)) }
+{
+    let second = operand(alloc, functions, left, m, base, b);
+    match second {
+        Kind::Int => {
+            let y = m.int;
+            table_ints(alloc, m, prim, x, y)
+        }
+        _ => apply_second(alloc, m, prim, x, second),
+    }
+}
+
+/// A part that may be an integer that is read in place.
+#[cycle(walk)]
+#[inline(always)]
+fn operand(
+    alloc: Global,
+    functions: &[Function],
+    left: u32,
+    m: &mut Machine,
+    base: usize,
+    expr: &Core,
+) -> Kind
+    requires slots { base ≤ length m.old.slots }
+    requires pure { IsPureOver functions.now expr.now }
+    ensures { (k : Kept) → Tells result m.old m.new (here functions.now left expr.now (scope base m.old) k) }
+{
+    match leaf_int(left, m.slots.as_slice(), base, expr) {
+        Some(n) => int(m, n),
+        None => walk(alloc, functions, left, m, base, expr),
+    }
+}
+
+#[cycle(walk)]
+fn walk_many(
+    alloc: Global,
+    functions: &[Function],
+    left: u32,
+    m: &mut Machine,
+    base: usize,
+    prim: Primitive,
+    exprs: &[Core],
+) -> Kind
+    requires slots { base ≤ length m.old.slots }
+    requires pure { ArePureOver functions.now exprs.now }
     ensures { (k : Kept) → Tells result m.old m.new (state_done (here functions.now left) (scope base m.old) k (of_operator (operator.Prim prim)) exprs.now no_call) }
 {
     let held = m.held.len();
@@ -210,7 +335,9 @@ fn walk_let(
     exprs: &[Core],
     body: &Core,
 ) -> Kind
-    requires { base ≤ length m.old.slots }
+    requires slots { base ≤ length m.old.slots }
+    requires parts { ArePureOver functions.now exprs.now }
+    requires body { IsPureOver functions.now body.now }
     ensures { (k : Kept) → Tells result m.old m.new (let_done (here functions.now left) (scope base m.old) k (length exprs.now) (parts (here functions.now left) (scope base m.old) k 0 exprs.now) body.now) }
 {
     let held = m.held.len();
@@ -236,7 +363,9 @@ fn walk_call(
     function: u32,
     args: &[Core],
 ) -> Kind
-    requires { base ≤ length m.old.slots }
+    requires slots { base ≤ length m.old.slots }
+    requires args { ArePureOver functions.now args.now }
+    requires body { IsPureCall functions.now function (length args.now) }
     ensures { (k : Kept) → Tells result m.old m.new (call_done (here functions.now left) k (length args.now) (parts (here functions.now left) (scope base m.old) k 0 args.now) (body_for (slice_get functions.now function) (length args.now))) }
 {
     let held = m.held.len();
@@ -269,7 +398,9 @@ fn walk_loop(
     exprs: &[Core],
     body: &Core,
 ) -> Kind
-    requires { base ≤ length m.old.slots }
+    requires slots { base ≤ length m.old.slots }
+    requires parts { ArePureOver functions.now exprs.now }
+    requires body { IsPureOver functions.now body.now }
     ensures { (k : Kept) → Tells result m.old m.new (loop_done (here functions.now left) (scope base m.old) looped (length exprs.now) (parts (here functions.now left) (scope base m.old) k 0 exprs.now) body.now) }
 {
     let held = m.held.len();
@@ -303,7 +434,8 @@ fn walk_rounds(
     values: &[Seen],
     body: &Core,
 ) -> Kind
-    requires { base ≤ length m.old.slots }
+    requires slots { base ≤ length m.old.slots }
+    requires pure { IsPureOver functions.now body.now }
     ensures { let ts = all_turns (body_with (here functions.now left) (scope base m.old) body.now) (part values.now 0) (rounds looped (part values.now 1)) in Answers result m.old m.new ts.value ts.cost (option_or ts.first (own ts.value)) }
 {
     match rounds_of(looped, values) {
@@ -327,7 +459,8 @@ fn walk_turns(
     init: Seen,
     rounds: Rounds<'_>,
 ) -> Kind
-    requires { base ≤ length m.old.slots }
+    requires slots { base ≤ length m.old.slots }
+    requires pure { IsPureOver functions.now body.now }
     ensures { let ts = turns (body_with (here functions.now left) (scope base m.old) body.now) (number_of rounds.entry) init (rounds_left rounds.entry) in Answers result m.old m.new ts.value ts.cost (option_or ts.first (own ts.value)) }
 {
     let mut acc = init;
@@ -362,7 +495,8 @@ fn walk_turn(
     acc: Seen,
     item: Option<&Value>,
 ) -> Kind
-    requires { base ≤ length m.old.slots }
+    requires slots { base ≤ length m.old.slots }
+    requires pure { IsPureOver functions.now body.now }
     ensures { let d = body_with (here functions.now left) (scope base m.old) body.now (acc ∷ bound item.entry) in Answers result m.old m.new d.value (d.cost + 1) d.first }
 {
     if !spend(m) {

@@ -7,37 +7,49 @@ use Rattle.fr_kernel.proofs.Runs.{Onward, Turning}
 use Rattle.fr_kernel.proofs.walking.+walk.Given as goal
 
 abbrev pub decreases-walk : goal.decreases-walk
-decreases-walk l = 5 * l.left
+decreases-walk l = 6 * l.left
 
 abbrev pub decreases-walk_parts : goal.decreases-walk_parts
-decreases-walk_parts l = 5 * l.left + 1
+decreases-walk_parts l = 6 * l.left + 1
 
 abbrev pub decreases-walk_if : goal.decreases-walk_if
-decreases-walk_if l = 5 * l.left + 4
+decreases-walk_if l = 6 * l.left + 5
 
 abbrev pub decreases-walk_operator : goal.decreases-walk_operator
-decreases-walk_operator l = 5 * l.left + 4
+decreases-walk_operator l = 6 * l.left + 5
 
 abbrev pub decreases-walk_prim : goal.decreases-walk_prim
-decreases-walk_prim l = 5 * l.left + 3
+decreases-walk_prim l = 6 * l.left + 4
+
+abbrev pub decreases-walk_two : goal.decreases-walk_two
+decreases-walk_two l = 6 * l.left + 3
+
+abbrev pub decreases-walk_many : goal.decreases-walk_many
+decreases-walk_many l = 6 * l.left + 3
+
+abbrev pub decreases-walk_second : goal.decreases-walk_second
+decreases-walk_second l = 6 * l.left + 2
+
+abbrev pub decreases-operand : goal.decreases-operand
+decreases-operand l = 6 * l.left + 1
 
 abbrev pub decreases-walk_let : goal.decreases-walk_let
-decreases-walk_let l = 5 * l.left + 4
+decreases-walk_let l = 6 * l.left + 5
 
 abbrev pub decreases-walk_call : goal.decreases-walk_call
-decreases-walk_call l = 5 * l.left + 4
+decreases-walk_call l = 6 * l.left + 5
 
 abbrev pub decreases-walk_loop : goal.decreases-walk_loop
-decreases-walk_loop l = 5 * l.left + 4
+decreases-walk_loop l = 6 * l.left + 5
 
 abbrev pub decreases-walk_rounds : goal.decreases-walk_rounds
-decreases-walk_rounds l = 5 * l.left + 3
+decreases-walk_rounds l = 6 * l.left + 4
 
 abbrev pub decreases-walk_turns : goal.decreases-walk_turns
-decreases-walk_turns l = 5 * l.left + 2
+decreases-walk_turns l = 6 * l.left + 3
 
 abbrev pub decreases-walk_turn : goal.decreases-walk_turn
-decreases-walk_turn l = 5 * l.left + 1
+decreases-walk_turn l = 6 * l.left + 2
 
 abbrev pub invariant-walk_parts-loop-i : goal.invariant-walk_parts-loop-i
 invariant-walk_parts-loop-i l = record {
