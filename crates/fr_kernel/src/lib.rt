@@ -4,8 +4,10 @@
 mod fuel;
 mod integers;
 mod laws;
+mod looping;
 mod machine;
 mod names;
+mod naming;
 mod placing;
 mod running;
 mod table;
@@ -14,5 +16,4 @@ mod walking;
 pub use fuel::{Fuel, KernStop};
 pub use laws::numbering_keeps_the_meaning;
 pub use machine::Machine;
-pub use names::Names;
-pub use table::{Kern, KernTable, run_kern};
+pub use table::{KernTable, run_fold, run_kern, run_repeat};
