@@ -1,6 +1,11 @@
 mod Runs
 mod Numbers
 mod Copies
+mod InOrder
+mod Naming
+mod Restoring
+mod Standing
+mod Looping
 mod Tables
 mod Operands
 mod Purity
