@@ -25,12 +25,12 @@ has-in_order q (n ∷ ns) = has-with q n (in_order ns) ∙ ap (λ b. (q == n) ||
 
 above-with : (a n : ℕ) (ms : List ℕ) → a < n → AllAbove a ms → AllAbove a (with_number n ms)
 above-with a n [] h g = (h, tt)
-above-with a n (m ∷ ms) h g = by (nat_lt n m) (n == m)
+above-with a n (m ∷ ms) h g = by (nat_lt n m) (n == m) (above-with a n ms h g.1)
   where
-    by : (less same : Bool) → AllAbove a (if less then n ∷ m ∷ ms else if same then m ∷ ms else m ∷ with_number n ms)
-    by true same = (h, g)
-    by false true = g
-    by false false = (g.0, above-with a n ms h g.1)
+    by : (less same : Bool) → AllAbove a (with_number n ms) → AllAbove a (if less then n ∷ m ∷ ms else if same then m ∷ ms else m ∷ with_number n ms)
+    by true same rest = (h, g)
+    by false true rest = g
+    by false false rest = (g.0, rest)
 
 all_above : (a b : ℕ) (ms : List ℕ) → a < b → AllAbove b ms → AllAbove a ms
 all_above a b [] h g = tt
@@ -38,12 +38,12 @@ all_above a b (m ∷ ms) h g = (omega (arith, h, g.0), all_above a b ms h g.1)
 
 rises-with : (n : ℕ) (ms : List ℕ) → Rises ms → Rises (with_number n ms)
 rises-with n [] h = (tt, tt)
-rises-with n (m ∷ ms) h = by (nat_lt n m) (n == m) refl refl
+rises-with n (m ∷ ms) h = by (nat_lt n m) (n == m) refl refl (rises-with n ms h.1)
   where
-    by : (less same : Bool) → nat_lt n m ≡ less → (n == m) ≡ same → Rises (if less then n ∷ m ∷ ms else if same then m ∷ ms else m ∷ with_number n ms)
-    by true same e d = let below : n < m = grind (arith, nat_tests) in ((below, all_above n m ms below h.0), h)
-    by false true e d = h
-    by false false e d = let above : m < n = grind (arith, nat_tests) in (above-with m n ms above h.0, rises-with n ms h.1)
+    by : (less same : Bool) → nat_lt n m ≡ less → (n == m) ≡ same → Rises (with_number n ms) → Rises (if less then n ∷ m ∷ ms else if same then m ∷ ms else m ∷ with_number n ms)
+    by true same e d rest = let below : n < m = grind (arith, nat_tests) in ((below, all_above n m ms below h.0), h)
+    by false true e d rest = h
+    by false false e d rest = let above : m < n = grind (arith, nat_tests) in (above-with m n ms above h.0, rest)
 
 pub rises-in_order : (ns : List ℕ) → Rises (in_order ns)
 rises-in_order [] = tt
@@ -73,6 +73,9 @@ tails_same x xs ys above other h q = by (q == x) refl
     by true e = let same : q ≤ x = grind (arith, nat_tests) in none_at q x xs same above ∙ sym (none_at q x ys same other)
     by false e = grind (arith, nat_tests, h q)
 
+both_same : (x y : ℕ) (xs ys : List ℕ) → x ≡ y → xs ≡ ys → x ∷ xs ≡ y ∷ ys
+both_same x y xs ys h g = ap (λ n. n ∷ xs) h ∙ ap (λ l. y ∷ l) g
+
 pub same_rising : (xs ys : List ℕ) → Rises xs → Rises ys → SameMembers xs ys → xs ≡ ys
 same_rising [] [] r s h = refl
 same_rising [] (y ∷ ys) r s h = absurd (false≢true (h y ∙ has_itself y ys))
@@ -81,7 +84,7 @@ same_rising (x ∷ xs) (y ∷ ys) r s h =
     let first : x ≡ y = omega (arith, not_below x y xs ys s.0 (h x), not_below y x ys xs r.0 (sym (h y))) in
     let other = subst (λ n. AllAbove n ys) (sym first) s.0 in
     let members = subst (λ n. SameMembers (x ∷ xs) (n ∷ ys)) (sym first) h in
-    rw first at ap (λ l. x ∷ l) (same_rising xs ys r.1 s.1 (tails_same x xs ys r.0 other members))
+    both_same x y xs ys first (same_rising xs ys r.1 s.1 (tails_same x xs ys r.0 other members))
 
 -- a list that is sorted and whose repeats are left out
 
@@ -110,11 +113,11 @@ in_order_from ns sorted moved h =
 
 has_index : (q : ℕ) (ns : List ℕ) → has q ns ≡ true → index_of q ns < length ns
 has_index q [] h = absurd (false≢true h)
-has_index q (n ∷ ns) h = by (q == n) refl
+has_index q (n ∷ ns) h = by (q == n) (has_index q ns) h
   where
-    by : (t : Bool) → (q == n) ≡ t → (if t then 0 else 1 + index_of q ns) < length (n ∷ ns)
-    by true e = omega arith
-    by false e = let rest : has q ns ≡ true = rw e at h in omega (arith, has_index q ns rest)
+    by : (t : Bool) → (has q ns ≡ true → index_of q ns < length ns) → t || has q ns ≡ true → (if t then 0 else 1 + index_of q ns) < length (n ∷ ns)
+    by true rest h = omega arith
+    by false rest h = omega (arith, rest h)
 
 all_have : (ns all : List ℕ) → ((q : ℕ) → has q ns ≡ true → has q all ≡ true) → Every (λ q. index_of q all < length all) ns
 all_have [] all h = tt
@@ -130,8 +133,9 @@ Listed all q = index_of q all < length all
 -- those below a bound
 pub below_listed : (bound : ℕ) (ns all : List ℕ) → Every (λ q. index_of q all < length all) (all_below bound ns) → Every (λ q. q < bound → index_of q all < length all) ns
 below_listed bound [] all h = tt
-below_listed bound (n ∷ ns) all h = by (nat_lt n bound) refl h
+below_listed bound (n ∷ ns) all h = by (nat_lt n bound) refl (below_listed bound ns all) h
   where
-    by : (t : Bool) → nat_lt n bound ≡ t → Every (Listed all) ((if t then n ∷ [] else []) ++ all_below bound ns) → Every (λ q. q < bound → Listed all q) (n ∷ ns)
-    by true e g = ((λ less. g.0), below_listed bound ns all g.1)
-    by false e g = ((λ less. absurd (grind (arith, nat_tests))), below_listed bound ns all g)
+    by : (t : Bool) → nat_lt n bound ≡ t → (Every (Listed all) (all_below bound ns) → Every (λ q. q < bound → Listed all q) ns)
+        → Every (Listed all) ((if t then n ∷ [] else []) ++ all_below bound ns) → Every (λ q. q < bound → Listed all q) (n ∷ ns)
+    by true e rest g = ((λ less. g.0), rest g.1)
+    by false e rest g = ((λ less. absurd (grind (arith, nat_tests))), rest g)

@@ -2,10 +2,10 @@ mod Runs
 mod Numbers
 mod Copies
 mod InOrder
-mod Naming
+mod Gathering
 mod Restoring
 mod Standing
-mod Looping
+mod Turning
 mod Tables
 mod Operands
 mod Purity

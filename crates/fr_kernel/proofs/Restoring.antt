@@ -1,5 +1,5 @@
 -- An expression that was numbered is restored.
-use Rattle.std.proofs.Common.{◌≡◌, ◌+◌, ◌-◌, ◌<◌, ◌≤◌, ◌⊎◌, inl, inr, ℕ, Bool, true, false, if◌then◌else◌, ◌==◌, nat_lt, List, [], ◌∷◌, ◌++◌, map, length, slice_index, refl, sym, ap, ◌∙◌, subst, arith}
+use Rattle.std.proofs.Common.{◌≡◌, ◌+◌, ◌-◌, ◌<◌, ◌≤◌, ◌⊎◌, inl, inr, ℕ, suc, Bool, true, false, if◌then◌else◌, ◌==◌, nat_lt, List, [], ◌∷◌, ◌++◌, map, length, slice_index, refl, sym, ap, ◌∙◌, subst, arith}
 use Rattle.std.proofs.lemmas.Bool.{le-ltb, lt-ltb}
 use Rattle.std.proofs.lemmas.Bool.Decides.{nat_tests}
 use Rattle.fr_core.specs.Shapes.{parts_in}
@@ -39,14 +39,14 @@ restored-opens s e = ap out-Core (fold_out-Core Core (restore_step s) e) ∙ ste
 
 index_found : (q : ℕ) (ns : List ℕ) → index_of q ns < length ns → slice_index ns (index_of q ns) ≡ q
 index_found q [] h = absurd (omega (arith, h))
-index_found q (n ∷ ns) h = by (q == n) refl
+index_found q (n ∷ ns) h = by (q == n) refl (index_found q ns) h
   where
-    by : (t : Bool) → (q == n) ≡ t → slice_index (n ∷ ns) (if t then 0 else 1 + index_of q ns) ≡ q
-    by true e = grind (arith, nat_tests)
-    by false e =
-        let within : index_of q ns < length ns = let i : (if q == n then 0 else 1 + index_of q ns) < length (n ∷ ns) = h in let j : 1 + index_of q ns < length (n ∷ ns) = rw e at i in omega (arith, j) in
+    by : (t : Bool) → (q == n) ≡ t → (index_of q ns < length ns → slice_index ns (index_of q ns) ≡ q)
+        → (if t then 0 else 1 + index_of q ns) < length (n ∷ ns) → slice_index (n ∷ ns) (if t then 0 else 1 + index_of q ns) ≡ q
+    by true e rest h = grind (arith, nat_tests)
+    by false e rest h =
         let one : 1 + index_of q ns ≡ suc (index_of q ns) = omega arith in
-        ap (slice_index (n ∷ ns)) one ∙ index_found q ns within
+        ap (slice_index (n ∷ ns)) one ∙ rest (omega (arith, h))
 
 module _ (s : Scheme) where
   at_outer : (k : ℕ) → k < length s.outer → stood_for s k ≡ variable_of (slice_index s.outer k)
@@ -61,10 +61,10 @@ module _ (s : Scheme) where
   at_own : (k : ℕ) → width s ≤ k → stood_for s k ≡ variable_of (k - width s + around s)
   at_own k past = rw (le-ltb k (length s.outer) (omega (arith, past)), le-ltb k (before_params s) (omega (arith, past)), le-ltb k (width s) past) refl
 
-  slot_outer : (x : ℕ) → x < s.first → variable_slot s x ≡ index_of x s.outer
+  pub slot_outer : (x : ℕ) → x < s.first → variable_slot s x ≡ index_of x s.outer
   slot_outer x h = rw (lt-ltb x s.first h) refl
 
-  slot_param : (x : ℕ) → s.first ≤ x → x < around s → variable_slot s x ≡ x - s.first + before_params s
+  pub slot_param : (x : ℕ) → s.first ≤ x → x < around s → variable_slot s x ≡ x - s.first + before_params s
   slot_param x past h = rw (le-ltb x s.first past, lt-ltb x (around s) h) refl
 
   slot_own : (x : ℕ) → around s ≤ x → variable_slot s x ≡ x - around s + width s

@@ -27,13 +27,14 @@ named_for first params e = record {
 
 get_listed : {X : Type 0} (f : ℕ → X) (q : ℕ) (ns : List ℕ) → index_of q ns < length ns → slice_get (map f ns) (index_of q ns) ≡ Some (f q)
 get_listed f q [] h = absurd (omega (arith, h))
-get_listed f q (n ∷ ns) h = by (q == n) refl h
+get_listed {X} f q (n ∷ ns) h = by (q == n) refl (get_listed f q ns) h
   where
-    by : (t : Bool) → (q == n) ≡ t → (if t then 0 else 1 + index_of q ns) < length (n ∷ ns) → slice_get (f n ∷ map f ns) (if t then 0 else 1 + index_of q ns) ≡ Some (f q)
-    by true e g = let same : q ≡ n = grind (arith, nat_tests) in ap (λ m. Some (f m)) (sym same)
-    by false e g =
+    by : (t : Bool) → (q == n) ≡ t → (index_of q ns < length ns → slice_get (map f ns) (index_of q ns) ≡ Some (f q))
+        → (if t then 0 else 1 + index_of q ns) < length (n ∷ ns) → slice_get (f n ∷ map f ns) (if t then 0 else 1 + index_of q ns) ≡ Some (f q)
+    by true e rest g = let same : q ≡ n = grind (arith, nat_tests) in ap (λ m. Some (f m)) (sym same)
+    by false e rest g =
         let one : 1 + index_of q ns ≡ suc (index_of q ns) = omega arith in
-        ap (slice_get (f n ∷ map f ns)) one ∙ get_listed f q ns (omega (arith, g))
+        ap (slice_get (f n ∷ map f ns)) one ∙ rest (omega (arith, g))
 
 get_here : (env : Env) (x : ℕ) → x < length env → slice_get env x ≡ Some (part env x)
 get_here [] x h = absurd (omega (arith, h))

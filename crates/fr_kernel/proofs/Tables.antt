@@ -24,7 +24,7 @@ use Rattle.fr_kernel.specs.Placed.{scheme_of, scheme_for}
 use Rattle.fr_kernel.specs.Purity.{IsPureOver}
 use Rattle.fr_kernel.specs.Slots.{slots_for}
 use Rattle.fr_kernel.specs.Tables.{expr_of, kernel_of, IsKernel, AreKernels}
-use Rattle.fr_kernel.proofs.Looping.{loops_same}
+use Rattle.fr_kernel.proofs.Turning.{loops_same}
 use Rattle.fr_kernel.proofs.Numbers.{bare_agree, numbered_same}
 use Rattle.fr_kernel.proofs.Restoring.{Named, restores}
 use Rattle.fr_kernel.proofs.Standing.{named_for, values_of, stands, slots_seen, inputs_stand}

@@ -6,7 +6,7 @@ use Rattle.fr_core.proofs.PartLists.{within_parts}
 use Rattle.fr_meaning.specs.Dependence.{own_variable, variables, own_source, sources_of}
 use Rattle.fr_meaning.proofs.Named.{variables-opens, sources-opens}
 use Rattle.fr_kernel.specs.Slots.{all_below}
-use Rattle.fr_kernel.proofs.Naming.{all_below-append, named_first, named_next, named_last}
+use Rattle.fr_kernel.proofs.Gathering.{all_below-append, named_first, named_next, named_last}
 use Rattle.fr_kernel.proofs.naming.+names_into.Goals as goal
 
 pub loop-part-init : goal.loop-part-init
@@ -33,7 +33,8 @@ loop-part-preserved t c =
 
 pub returns : goal.returns
 returns t c =
-    let es = parts_of c.args.e.now in (
-      named_last variables (all_below c.args.first) refl (all_below-append c.args.first) es c.loop-part.number c.loop-part.outer.items _ c.in_default.ensures.value c.loop-part.invariant.variables,
-      named_last sources_of (λ ns. ns) refl (λ ms ns. refl) es c.loop-part.number c.loop-part.sources.items _ c.in_default.ensures.value c.loop-part.invariant.sources,
-    )
+    let es = parts_of c.args.e.now in
+    record {
+      variables = named_last variables (all_below c.args.first) refl (all_below-append c.args.first) es c.loop-part.number c.loop-part.outer.items _ c.in_default.ensures.value c.loop-part.invariant.variables;
+      sources = named_last sources_of (λ ns. ns) refl (λ ms ns. refl) es c.loop-part.number c.loop-part.sources.items _ c.in_default.ensures.value c.loop-part.invariant.sources;
+    }
