@@ -1,6 +1,6 @@
 -- What a run of a kernel, or of a loop over one, tells of its expression.
 use Rattle.std.proofs.Common.{◌≡◌, ◌+◌, ◌<◌, ℕ, zero, suc, List, [], ◌∷◌, ◌++◌, map, drop, length, get_or, slice_get, sym, refl, ap, subst, ◌∙◌, arith, Some, Ok, Err, Result}
-use Rattle.std.proofs.lemmas.List.{map-append}
+use Rattle.std.proofs.lemmas.List.{length-map}
 use Rattle.fr_value.specs.declared.now.Now.{Now}
 use Rattle.fr_core.specs.Classes.{IsPureExpr}
 use Rattle.fr_core.specs.Shapes.{loop_binds}
@@ -17,7 +17,7 @@ use Rattle.fr_kernel.specs.declared.fuel.KernStop.{KernStop}
 use Rattle.fr_kernel.specs.declared.names.Names.{Names}
 use Rattle.fr_kernel.specs.declared.table.Kern.{Kern}
 use Rattle.fr_kernel.specs.Answers.{world, slot_values, Ran}
-use Rattle.fr_kernel.specs.Kernels.{Kernel, kernel_for, slot_seen, AreInputs, AreOthers}
+use Rattle.fr_kernel.specs.Kernels.{Kernel, Kernels, kernel_for, slot_seen, world_at, AreInputs, AreOthers}
 use Rattle.fr_kernel.specs.Loops.{loop_over, loop_at}
 use Rattle.fr_kernel.specs.Numbers.{Scheme, numbered, restored}
 use Rattle.fr_kernel.specs.Placed.{scheme_of, scheme_for}
@@ -65,10 +65,10 @@ kernel_at fs [] i q within is h = absurd (omega (arith, within))
 kernel_at fs (k ∷ ks) zero q within is h = subst (IsKernel fs) (sym is) h.0
 kernel_at fs (k ∷ ks) (suc i) q within is h = kernel_at fs ks i q (omega (arith, within)) is h.1
 
-pub seen_at : (ks : List Kern) (i : ℕ) (q : Kern) (k : Kernel) → q ≡ get_or ks i q → slice_get (map kernel_of ks) i ≡ Some k → kernel_of q ≡ k
-seen_at [] i q k is h = absurd cc
-seen_at (p ∷ ks) zero q k is h = let same : kernel_of p ≡ k = cc in ap kernel_of is ∙ same
-seen_at (p ∷ ks) (suc i) q k is h = seen_at ks i q k is h
+seen_at : (ks : List Kern) (i : ℕ) (q : Kern) → i < length ks → q ≡ get_or ks i q → slice_get (map kernel_of ks) i ≡ Some (kernel_of q)
+seen_at [] i q within is = absurd (omega (arith, within))
+seen_at (p ∷ ks) zero q within is = ap (λ p. Some (kernel_of p)) (sym is)
+seen_at (p ∷ ks) (suc i) q within is = seen_at ks i q (omega (arith, within)) is
 
 -- over the slots that its code has, a kernel tells what its expression does at its place
 pub code_agrees : (p : Program) (s : Scheme) (first params : ℕ) (e : Core) → s ≡ scheme_for first params e → IsPureExpr p e
@@ -143,3 +143,42 @@ module _ (fs : List Function) (q : Kern) (h : IsKernel fs q) (sources : List Now
       (subst (λ slots. Agree (body vs) (eval (world fs) (nest + 1) q.code (slots ++ vs) kept.Nothing)) (sym others)
       (kern_agrees env vs i.around (long ∙ sym binds) (nest + 1) kept.Nothing kept.Nothing))) (map (λ n. Ok n) inputs) in
       subst (Ran r before after) (sym same) run
+
+-- a kernel of a table as the code reads it
+
+module _ (fs : List Function) (ks : List Kern) (t : Kernels) (view : record { functions = fs; kernels = map kernel_of ks } ≡ t) (i : ℕ) (all : List Kern) (same : all ≡ ks) (q : Kern) (is : q ≡ get_or all i q)
+    (number : i < length t.kernels) (sound : AreKernels fs ks) where
+  here : q ≡ get_or ks i q
+  here = is ∙ ap (λ l. get_or l i q) same
+
+  within : i < length ks
+  within = omega (arith, number, ap (λ (t : Kernels). length t.kernels) view, length-map ks kernel_of)
+
+  pub kernel_here : IsKernel fs q
+  kernel_here = kernel_at fs ks i q within here sound
+
+  pub seen_here : slice_get t.kernels i ≡ Some (kernel_of q)
+  seen_here = subst (λ (t : Kernels). slice_get t.kernels i ≡ Some (kernel_of q)) view (seen_at ks i q within here)
+
+  only : (k : Kernel) → slice_get t.kernels i ≡ Some k → kernel_of q ≡ k
+  only k h = let e : Some (kernel_of q) ≡ Some k = sym seen_here ∙ h in cc
+
+  module _ (gs : List Function) (of_table : gs ≡ fs) (inputs : List Now) (r : Result Now KernStop) (before after nest : ℕ) where
+    pub kern_answers : ((k : Kept) → Ran r before after (eval (world gs) nest q.code (slot_values q.names.params inputs) k))
+        → (k : Kernel) (sources : List Now) (env args : Env) → slice_get t.kernels i ≡ Some k → AreInputs k sources env args inputs → (kept : Kept) → Ran r before after (eval (world_at t sources) nest k.expr (env ++ args) kept)
+    kern_answers run k sources env args at given kept =
+        let run' = λ (k : Kept). subst (λ hs. Ran r before after (eval (world hs) nest q.code (slot_values q.names.params inputs) k)) of_table (run k) in
+        let given' = subst (λ (k : Kernel). AreInputs k sources env args inputs) (sym (only k at)) given in
+        let answer = kern_runs fs q kernel_here sources inputs r before after nest run' env args given' kept in
+        let over = subst (λ (t : Kernels). Ran r before after (eval (world_at t sources) nest (expr_of q) (env ++ args) kept)) view answer in
+        subst (λ (k : Kernel). Ran r before after (eval (world_at t sources) nest k.expr (env ++ args) kept)) (only k at) over
+
+    pub loop_answers : (l : Loop) → q.names.params ≡ loop_binds l
+        → Ran r before after (loop_over l (body_with (eval (world gs) (nest + 1)) (map (λ n. Ok n) (drop 2 inputs)) q.code) (map (λ n. Ok n) inputs))
+        → (k : Kernel) (sources : List Now) (env : Env) → slice_get t.kernels i ≡ Some k → AreOthers k sources env (drop 2 inputs) → Ran r before after (loop_at (world_at t sources) nest l k.expr env inputs)
+    loop_answers l binds run k sources env at given =
+        let run' = subst (λ hs. Ran r before after (loop_over l (body_with (eval (world hs) (nest + 1)) (map (λ n. Ok n) (drop 2 inputs)) q.code) (map (λ n. Ok n) inputs))) of_table run in
+        let given' = subst (λ (k : Kernel). AreOthers k sources env (drop 2 inputs)) (sym (only k at)) given in
+        let answer = loop_runs fs q kernel_here sources l inputs r before after nest binds run' env given' in
+        let over = subst (λ (t : Kernels). Ran r before after (loop_at (world_at t sources) nest l (expr_of q) env inputs)) view answer in
+        subst (λ (k : Kernel). Ran r before after (loop_at (world_at t sources) nest l k.expr env inputs)) (only k at) over
