@@ -1,6 +1,6 @@
 -- What a run of a kernel, or of a loop over one, tells of its expression.
 use Rattle.std.proofs.Common.{◌≡◌, ◌+◌, ◌<◌, ℕ, zero, suc, List, [], ◌∷◌, ◌++◌, map, drop, length, get_or, slice_get, sym, refl, ap, subst, ◌∙◌, arith, Some, Ok, Err, Result}
-use Rattle.std.proofs.lemmas.List.{length-map}
+use Rattle.std.proofs.lemmas.List.{length-map, map-append}
 use Rattle.fr_value.specs.declared.now.Now.{Now}
 use Rattle.fr_core.specs.Classes.{IsPureExpr}
 use Rattle.fr_core.specs.Shapes.{loop_binds}
@@ -57,6 +57,15 @@ module _ (fs : List Function) (first params : ℕ) (e : Core) (k : Kern) (names 
 pub one_more : (fs : List Function) (ks : List Kern) (k : Kern) → AreKernels fs ks → IsKernel fs k → AreKernels fs (ks ++ k ∷ [])
 one_more fs [] k h g = (g, tt)
 one_more fs (q ∷ ks) k h g = (h.0, one_more fs ks k h.1 g)
+
+abbrev seen_as : List Function → List Kernel → Kernels
+seen_as fs kernels = record { functions = fs; kernels = kernels }
+
+pub appended : (fs : List Function) (ks new : List Kern) (k : Kern) (kernel : Kernel) (t : Kernels) → seen_as fs (map kernel_of ks) ≡ t → new ≡ ks ++ k ∷ [] → kernel_of k ≡ kernel
+    → seen_as fs (map kernel_of new) ≡ record t { kernels = t.kernels ++ kernel ∷ [] }
+appended fs ks new k kernel t view is same =
+    ap (λ l. seen_as fs (map kernel_of l)) is ∙ ap (seen_as fs) (map-append kernel_of ks (k ∷ []) ∙ ap (λ q. map kernel_of ks ++ q ∷ []) same)
+    ∙ ap (λ (t : Kernels). record t { kernels = t.kernels ++ kernel ∷ [] }) view
 
 -- a kernel that is found
 
