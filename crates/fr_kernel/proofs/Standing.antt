@@ -1,12 +1,12 @@
 -- The slots of a kernel have what its expression names.
-use Rattle.std.proofs.Common.{◌≡◌, ◌+◌, ◌-◌, ◌<◌, ◌≤◌, ◌⊎◌, inl, inr, ℕ, zero, suc, Bool, true, false, if◌then◌else◌, ◌==◌, List, [], ◌∷◌, ◌++◌, map, take, drop, length, slice_get, slice_index, refl, sym, ap, ◌∙◌, subst, arith, Some, None, Ok}
+use Rattle.std.proofs.Common.{◌≡◌, ◌+◌, ◌-◌, ◌<◌, inl, inr, ℕ, zero, suc, Bool, true, false, if◌then◌else◌, ◌==◌, List, [], ◌∷◌, ◌++◌, map, take, drop, length, slice_get, refl, sym, ap, ◌∙◌, arith, Some, Ok}
 use Rattle.std.proofs.lemmas.Bool.Decides.{nat_tests}
 use Rattle.std.proofs.lemmas.List.{length-append, length-map, map-append}
 use Rattle.std.proofs.Math.Seq.{drop-append_seam, take-append_seam}
 use Rattle.fr_value.specs.declared.now.Now.{Now}
 use Rattle.fr_core.specs.declared.core_form.Core.{Core}
 use Rattle.fr_core.proofs.Parts.{map-map}
-use Rattle.fr_meaning.specs.Words.{Seen, Env, found, part}
+use Rattle.fr_meaning.specs.Words.{Env, found, part}
 use Rattle.fr_meaning.specs.Evaluation.{source_seen}
 use Rattle.fr_meaning.specs.Dependence.{variables, sources_of}
 use Rattle.fr_kernel.specs.Answers.{slot_values}

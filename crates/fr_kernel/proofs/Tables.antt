@@ -10,11 +10,10 @@ use Rattle.fr_core.specs.declared.kept.Kept.{Kept}
 use Rattle.fr_core.specs.declared.kept.Kept.TheVariants as kept
 use Rattle.fr_core.specs.declared.program.Function.{Function}
 use Rattle.fr_core.specs.declared.program.Program.{Program}
-use Rattle.fr_meaning.specs.Words.{Seen, Env, Done}
+use Rattle.fr_meaning.specs.Words.{Env, Done}
 use Rattle.fr_meaning.specs.Evaluation.{World, world_of, body_with, eval}
 use Rattle.fr_meaning.specs.Agreement.{Agree}
 use Rattle.fr_kernel.specs.declared.fuel.KernStop.{KernStop}
-use Rattle.fr_kernel.specs.declared.names.Names.{Names}
 use Rattle.fr_kernel.specs.declared.table.Kern.{Kern}
 use Rattle.fr_kernel.specs.Answers.{world, slot_values, Ran}
 use Rattle.fr_kernel.specs.Kernels.{Kernel, Kernels, kernel_for, slot_seen, world_at, AreInputs, AreOthers}

@@ -1,5 +1,5 @@
 -- Loops over bodies that tell the same, over values of as many variables as a turn binds.
-use Rattle.std.proofs.Common.{◌≡◌, ◌+◌, ◌≤◌, ℕ, zero, suc, List, [], ◌∷◌, ◌++◌, map, replicate, take, length, refl, ap, ◌∙◌, arith, Ok, Err, Result}
+use Rattle.std.proofs.Common.{◌≡◌, ◌+◌, ℕ, zero, suc, List, [], ◌∷◌, map, replicate, take, length, refl, ap, ◌∙◌, Ok, Err, Result}
 use Rattle.fr_value.specs.Data.{value_of}
 use Rattle.fr_value.specs.declared.now.Now.{Now}
 use Rattle.fr_value.specs.declared.now.Bad.{Bad}

@@ -1,4 +1,4 @@
-use Rattle.std.proofs.Common.{◌+◌, ◌++◌, List, [], drop, map, Ok, ap, subst, ◌∙◌}
+use Rattle.std.proofs.Common.{◌+◌, List, drop, map, Ok, ap, subst, ◌∙◌}
 use Rattle.std.proofs.lemmas.List.{append-nil}
 use Rattle.fr_value.specs.declared.now.Now.{Now}
 use Rattle.fr_meaning.specs.Words.{Env}

@@ -1,4 +1,4 @@
-use Rattle.std.proofs.Common.{List, ℕ, refl, arith}
+use Rattle.std.proofs.Common.{refl, arith}
 use Rattle.fr_core.specs.Shapes.{parts_of}
 use Rattle.fr_core.specs.declared.core_form.Core.{out-Core}
 use Rattle.fr_core.proofs.Folds.{part_nests_less}
