@@ -1,6 +1,7 @@
 pub mod Erasing
 pub mod Places
 pub mod Ranges
+pub mod Parts
 pub mod Rows
 pub mod Joining
 pub mod Steps

@@ -43,11 +43,17 @@ ranged_append from mid to [] fs g h = later fs g h
   where
     later : (fs : List Low) → from ≤ mid → Ranged mid to fs → Ranged from to fs
     later [] g h = omega (arith, g, h)
-    later (f ∷ fs) g h = (h.0, (record {
-      order = omega (arith, g, h.1.0.order);
-      within = λ path r site a s. let w = h.1.0.within path r site a s in (omega (arith, g, w.0), w.1);
-      once = h.1.0.once;
-    }, h.1.1))
+    later (f ∷ fs) g h = (
+      h.0,
+      (
+        record {
+          order = omega (arith, g, h.1.0.order);
+          within = λ path r site a s. let w = h.1.0.within path r site a s in (omega (arith, g, w.0), w.1);
+          once = h.1.0.once;
+        },
+        h.1.1,
+      ),
+    )
 ranged_append from mid to (e ∷ es) fs g h = (g.0, (g.1.0, ranged_append g.0 mid to es fs g.1.1 h))
 
 -- an expression that carries no site itself
@@ -60,9 +66,11 @@ sites_below from to e es is none h = record {
   where
     range : Ranged from to (parts e)
     range = rw is h
+
     within : (path : List ℕ) (r : Low) (site : SiteId) → below e path ≡ Some r → site_of r ≡ Some site → (from ≤ site.0) × (site.0 < to)
     within [] r site a s = let own : site_of r ≡ None = ap site_of (sym (same_some e r a)) ∙ none in absurd cc
     within (i ∷ path) r site a s = ranged_within from to (parts e) range i path r site a s
+
     once : (p q : List ℕ) (r s : Low) (site : SiteId) → below e p ≡ Some r → below e q ≡ Some s → site_of r ≡ Some site → site_of s ≡ Some site → p ≡ q
     once [] q r s site a b c d = let own : site_of r ≡ None = ap site_of (sym (same_some e r a)) ∙ none in absurd cc
     once (i ∷ p) [] r s site a b c d = let own : site_of s ≡ None = ap site_of (sym (same_some e s b)) ∙ none in absurd cc
@@ -78,15 +86,19 @@ sites_own from last e es own is carries number h = record {
   where
     range : Ranged from last (parts e)
     range = rw is h
+
     here : (r : Low) (site : SiteId) → Some e ≡ Some r → site_of r ≡ Some site → site.0 ≡ last
     here r site a s =
         let same : own ≡ site = same_some own site (sym carries ∙ (ap site_of (same_some e r a) ∙ s)) in
         ap (λ (t : SiteId). t.0) (sym same) ∙ number
+
     inside : (i : ℕ) (path : List ℕ) (r : Low) (site : SiteId) → below e (i ∷ path) ≡ Some r → site_of r ≡ Some site → (from ≤ site.0) × (site.0 < last)
     inside i path r site a s = ranged_within from last (parts e) range i path r site a s
+
     within : (path : List ℕ) (r : Low) (site : SiteId) → below e path ≡ Some r → site_of r ≡ Some site → (from ≤ site.0) × (site.0 < last + 1)
     within [] r site a s = let n = here r site a s in (omega (arith, n, ranged_order from last es h), omega (arith, n))
     within (i ∷ path) r site a s = let w = inside i path r site a s in (w.0, omega (arith, w.1))
+
     once : (p q : List ℕ) (r s : Low) (site : SiteId) → below e p ≡ Some r → below e q ≡ Some s → site_of r ≡ Some site → site_of s ≡ Some site → p ≡ q
     once [] [] r s site a b c d = refl
     once [] (j ∷ q) r s site a b c d = let n = here r site a c in let w = inside j q s site b d in absurd (omega (arith, n, w.1))

@@ -85,18 +85,18 @@ and_false false = refl
 
 made_sited : (p : Program) (o : Option Classes) (ks : List Kernel) (n from to : ℕ) (e : Core) (l : Low) (f : Low-F Low) → out-Low l ≡ f → joins p o e ≡ false → is_collapsed_in f ≡ false → erase ks l ≡ e → FitsIfNamed ks n (named_in f)
     → AllEverywhere (IsPlaced p o ks) n (inner_low f) → HasSites from to l → IsMade p o ks n from to e l
-made_sited p o ks n from to e l f is apart open erased fits inside sites =
+made_sited p o ks n from to e l f is apart apart_itself erased fits inside sites =
     let told : collapses p o (erase ks l) ≡ false = ap (collapses p o) erased ∙ (ap (λ t. is_compound e && t) apart ∙ and_false (is_compound e)) in
     record {
       erased = erased;
-      placed = everywhere (IsPlaced p o ks) n l (inner_low f) (ap inner_low is) (record { collapsed = ap is_collapsed_in is ∙ (open ∙ sym told); fits = subst (λ g. FitsIfNamed ks n (named_in g)) (sym is) fits }) inside;
+      placed = everywhere (IsPlaced p o ks) n l (inner_low f) (ap inner_low is) (record { collapsed = ap is_collapsed_in is ∙ (apart_itself ∙ sym told); fits = subst (λ g. FitsIfNamed ks n (named_in g)) (sym is) fits }) inside;
       sites = sites;
     }
 
 made_plain : (p : Program) (o : Option Classes) (ks : List Kernel) (n from to : ℕ) (e : Core) (l : Low) (f : Low-F Low) → out-Low l ≡ f → joins p o e ≡ false → is_collapsed_in f ≡ false → site_at f ≡ None → erase ks l ≡ e → FitsIfNamed ks n (named_in f)
     → AllEverywhere (IsPlaced p o ks) n (inner_low f) → Ranged from to (parts_at f) → IsMade p o ks n from to e l
-made_plain p o ks n from to e l f is apart open siteless erased fits inside ranged =
-    made_sited p o ks n from to e l f is apart open erased fits inside (sites_below from to l (parts_at f) (ap parts_at is) (ap site_at is ∙ siteless) ranged)
+made_plain p o ks n from to e l f is apart apart_itself siteless erased fits inside ranged =
+    made_sited p o ks n from to e l f is apart apart_itself erased fits inside (sites_below from to l (parts_at f) (ap parts_at is) (ap site_at is ∙ siteless) ranged)
 
 -- the parts of an expression by its shape
 parts_are : (p : Program) (o : Option Classes) (ks : List Kernel) (n from to : ℕ) (e : Core) (f : Core-F Core) (ls : List Low) → out-Core e ≡ f → AreMade p o ks n from to (outside e) ls → AreMade p o ks n from to (outside_in f) ls

@@ -22,8 +22,8 @@ use Rattle.fr_purity.proofs.ClassLemmas.{is_pure_expr}
 use Rattle.fr_kernel.specs.Kernels.{Kernel, Kernels}
 use Rattle.fr_kernel.specs.Erasure.{Place, Everywhere, EverywhereIn, erase, erased, erased_function, erased_item, item_places, top_places, AllFit, CollapsesRegions, CollapsesNothing, is_collapsed, is_compound}
 use Rattle.fr_lower.specs.declared.making.Made.{Made}
-use Rattle.fr_lower.specs.Making.{AreGiven, joins, collapses, Extends, Grows, IsPlaced, IsMade, WasMade}
-use Rattle.fr_lower.specs.Tops.{IsFunction, AreFunctions, AreItems, WereFunctions, WereItems, IsLowered}
+use Rattle.fr_lower.specs.Making.{AreGiven, joins, collapses, Extends, Grows, HasSites, IsPlaced, IsMade, WasMade}
+use Rattle.fr_lower.specs.Tops.{IsFunction, AreFunctions, IsItem, expr_of_item, item_binds, AreItems, WasItem, WereFunctions, WereItems, IsLowered}
 use Rattle.fr_lower.proofs.Ranges.{Ranged, ranged_append, ranged_once}
 use Rattle.fr_lower.proofs.Steps.{grows_refl, grows_more}
 
@@ -36,11 +36,6 @@ function_root (g ∷ fs) rs (suc i) f h = function_root fs rs i f h
 
 pub function_fit : (p : Program) (i : ℕ) (f : Function) → IsFit p → slice_get p.functions i ≡ Some f → IsFitExpr p f.body
 function_fit p i f fit h = fit.each i (record { variables = f.params; expr = f.body }) (function_root p.functions (item_roots 0 p.body) i f h)
-
--- the expression of an item
-abbrev pub expr_of_item : Item → Core
-expr_of_item (item.Define e) = e
-expr_of_item (item.Show name e) = e
 
 item_root : (rs : List Root) (n : ℕ) (is : List Item) (i : ℕ) (x : Item) → slice_get is i ≡ Some x → (j : ℕ) × ((k : ℕ) × (slice_get (rs ++ item_roots n is) j ≡ Some (record { variables = k; expr = expr_of_item x })))
 item_root (r ∷ rs) n is i x h = let t = item_root rs n is i x h in (suc t.0, t.1)
@@ -85,22 +80,13 @@ pub record LaysItems (p : Program) (o : Option Classes) (old now : Made) (n : �
 pub items_first : (p : Program) (o : Option Classes) (m : Made) → LaysItems p o m m 0 p.body []
 items_first p o m = record { grows = grows_refl m; later = λ ks ext to rest h. h }
 
-pub items_define : (p : Program) (o : Option Classes) (old now new : Made) (n : ℕ) (e : Core) (left : List Item) (ls : List LowItem) (l : Low) → WasMade p o n now new e l → LaysItems p o old now n (item.Define e ∷ left) ls
-    → LaysItems p o old new (n + 1) left (ls ++ low_item.Define l ∷ [])
-items_define p o old now new n e left ls l w h = record {
+pub items_next : (p : Program) (o : Option Classes) (old now new : Made) (n after : ℕ) (x : Item) (left : List Item) (ls : List LowItem) (l : LowItem) → WasItem p o n now new x l → after ≡ n + item_binds x → LaysItems p o old now n (x ∷ left) ls
+    → LaysItems p o old new after left (ls ++ l ∷ [])
+items_next p o old now new n after x left ls l w is h = record {
   grows = grows_more old now new h.grows w.grows;
   later = λ ks ext to rest k.
-      subst (AreItems p o ks 0 old.sites to p.body) (sym (append_assoc ls (low_item.Define l ∷ []) rest))
-      (h.later ks (λ id m s. ext id m (w.grows.kernels id m s)) to (low_item.Define l ∷ rest) (new.sites, (w.later ks ext, k)));
-}
-
-pub items_show : (p : Program) (o : Option Classes) (old now new : Made) (n : ℕ) (name shown : List ℕ) (e : Core) (left : List Item) (ls : List LowItem) (l : Low) → shown ≡ name → WasMade p o n now new e l → LaysItems p o old now n (item.Show name e ∷ left) ls
-    → LaysItems p o old new n left (ls ++ low_item.Show shown l ∷ [])
-items_show p o old now new n name shown e left ls l same w h = record {
-  grows = grows_more old now new h.grows w.grows;
-  later = λ ks ext to rest k.
-      subst (AreItems p o ks 0 old.sites to p.body) (sym (append_assoc ls (low_item.Show shown l ∷ []) rest))
-      (h.later ks (λ id m s. ext id m (w.grows.kernels id m s)) to (low_item.Show shown l ∷ rest) (new.sites, (same, (w.later ks ext, k))));
+      subst (AreItems p o ks 0 old.sites to p.body) (sym (append_assoc ls (l ∷ []) rest))
+      (h.later ks (λ id m s. ext id m (w.grows.kernels id m s)) to (l ∷ rest) (new.sites, (w.later ks ext, subst (λ m. AreItems p o ks m new.sites to left rest) is k)));
 }
 
 pub items_last : (p : Program) (o : Option Classes) (old now : Made) (n : ℕ) (left : List Item) (ls : List LowItem) → left ≡ [] → LaysItems p o old now n left ls → WereItems p o old now ls
@@ -118,19 +104,20 @@ functions_erased p o ks from to (f ∷ fs) (l ∷ ls) h =
     let rest = functions_erased p o ks h.0 to fs ls h.1.1 in
     λ i. record { name = h.1.0.name i; params = h.1.0.params i; body = h.1.0.body.erased i } ∷ rest i
 
-items_erased : (p : Program) (o : Option Classes) (ks : List Kernel) (n from to : ℕ) (is : List Item) (ls : List LowItem) → AreItems p o ks n from to is ls → map (erased_item ks) ls ≡ is
+item_erased : (p : Program) (o : Option Classes) (ks : List Kernel) (n from to : ℕ) (x : Item) (l : LowItem) → IsItem p o ks n from to x l → erased_item ks l ≡ x
+item_erased p o ks n from to (item.Define e) (low_item.Define l) h = ap (λ c. item.Define c) h.erased
+item_erased p o ks n from to (item.Show name e) (low_item.Show shown l) h = λ i. item.Show (h.0 i) (h.1.erased i)
+item_erased p o ks n from to (item.Define e) (low_item.Show shown l) h = absurd h
+item_erased p o ks n from to (item.Show name e) (low_item.Define l) h = absurd h
+
+items_erased : (p : Program) (o : Option Classes) (ks : List Kernel) (n from to : ℕ) (xs : List Item) (ls : List LowItem) → AreItems p o ks n from to xs ls → map (erased_item ks) ls ≡ xs
 items_erased p o ks n from to [] [] h = refl
 items_erased p o ks n from to [] (l ∷ ls) h = absurd h
-items_erased p o ks n from to (item.Define e ∷ is) [] h = absurd h
-items_erased p o ks n from to (item.Show name e ∷ is) [] h = absurd h
-items_erased p o ks n from to (item.Define e ∷ is) (low_item.Show shown l ∷ ls) h = absurd h
-items_erased p o ks n from to (item.Show name e ∷ is) (low_item.Define l ∷ ls) h = absurd h
-items_erased p o ks n from to (item.Define e ∷ is) (low_item.Define l ∷ ls) h =
-    let rest = items_erased p o ks (n + 1) h.0 to is ls h.1.1 in
-    λ i. item.Define (h.1.0.erased i) ∷ rest i
-items_erased p o ks n from to (item.Show name e ∷ is) (low_item.Show shown l ∷ ls) h =
-    let rest = items_erased p o ks n h.0 to is ls h.1.1.1 in
-    λ i. item.Show (h.1.0 i) (h.1.1.0.erased i) ∷ rest i
+items_erased p o ks n from to (x ∷ xs) [] h = absurd h
+items_erased p o ks n from to (x ∷ xs) (l ∷ ls) h =
+    let one = item_erased p o ks n from h.0 x l h.1.0 in
+    let rest = items_erased p o ks (n + item_binds x) h.0 to xs ls h.1.1 in
+    λ i. one i ∷ rest i
 
 -- everywhere below each of these places
 abbrev AllTops : (Place → Type 0) → List Place → Type 0
@@ -150,15 +137,16 @@ functions_placed p o ks from to (f ∷ fs) [] ss h k = absurd h
 functions_placed p o ks from to (f ∷ fs) (l ∷ ls) ss h k =
     (subst (λ n. Everywhere (IsPlaced p o ks) (record { variables = n; expr = l.body })) (sym h.1.0.params) h.1.0.body.placed, functions_placed p o ks h.0 to fs ls ss h.1.1 k)
 
-items_placed : (p : Program) (o : Option Classes) (ks : List Kernel) (n from to : ℕ) (is : List Item) (ls : List LowItem) → AreItems p o ks n from to is ls → AllTops (IsPlaced p o ks) (item_places n ls)
+items_placed : (p : Program) (o : Option Classes) (ks : List Kernel) (n from to : ℕ) (xs : List Item) (ls : List LowItem) → AreItems p o ks n from to xs ls → AllTops (IsPlaced p o ks) (item_places n ls)
 items_placed p o ks n from to [] [] h = tt
 items_placed p o ks n from to [] (l ∷ ls) h = absurd h
-items_placed p o ks n from to (item.Define e ∷ is) [] h = tt
-items_placed p o ks n from to (item.Show name e ∷ is) [] h = tt
-items_placed p o ks n from to (item.Define e ∷ is) (low_item.Show shown l ∷ ls) h = absurd h
-items_placed p o ks n from to (item.Show name e ∷ is) (low_item.Define l ∷ ls) h = absurd h
-items_placed p o ks n from to (item.Define e ∷ is) (low_item.Define l ∷ ls) h = (h.1.0.placed, items_placed p o ks (n + 1) h.0 to is ls h.1.1)
-items_placed p o ks n from to (item.Show name e ∷ is) (low_item.Show shown l ∷ ls) h = (h.1.1.0.placed, items_placed p o ks n h.0 to is ls h.1.1.1)
+items_placed p o ks n from to (x ∷ xs) [] h = tt
+items_placed p o ks n from to (item.Define e ∷ xs) (low_item.Show shown l ∷ ls) h = absurd h.1.0
+items_placed p o ks n from to (item.Show name e ∷ xs) (low_item.Define l ∷ ls) h = absurd h.1.0
+items_placed p o ks n from to (item.Define e ∷ xs) (low_item.Define l ∷ ls) h = (h.1.0.placed, items_placed p o ks (n + 1) h.0 to xs ls h.1.1)
+items_placed p o ks n from to (item.Show name e ∷ xs) (low_item.Show shown l ∷ ls) h =
+    let same : n + 0 ≡ n = omega arith in
+    (h.1.0.1.placed, subst (λ m. AllTops (IsPlaced p o ks) (item_places m ls)) same (items_placed p o ks (n + 0) h.0 to xs ls h.1.1))
 
 functions_ranged : (p : Program) (o : Option Classes) (ks : List Kernel) (from to : ℕ) (fs : List Function) (ls : List LowFunction) → AreFunctions p o ks from to fs ls → Ranged from to (map (λ l. l.body) ls)
 functions_ranged p o ks from to [] [] h = h
@@ -166,15 +154,17 @@ functions_ranged p o ks from to [] (l ∷ ls) h = absurd h
 functions_ranged p o ks from to (f ∷ fs) [] h = absurd h
 functions_ranged p o ks from to (f ∷ fs) (l ∷ ls) h = (h.0, (h.1.0.body.sites, functions_ranged p o ks h.0 to fs ls h.1.1))
 
-items_ranged : (p : Program) (o : Option Classes) (ks : List Kernel) (n from to : ℕ) (is : List Item) (ls : List LowItem) → AreItems p o ks n from to is ls → Ranged from to (map item_expr ls)
+item_sites : (p : Program) (o : Option Classes) (ks : List Kernel) (n from to : ℕ) (x : Item) (l : LowItem) → IsItem p o ks n from to x l → HasSites from to (item_expr l)
+item_sites p o ks n from to (item.Define e) (low_item.Define l) h = h.sites
+item_sites p o ks n from to (item.Show name e) (low_item.Show shown l) h = h.1.sites
+item_sites p o ks n from to (item.Define e) (low_item.Show shown l) h = absurd h
+item_sites p o ks n from to (item.Show name e) (low_item.Define l) h = absurd h
+
+items_ranged : (p : Program) (o : Option Classes) (ks : List Kernel) (n from to : ℕ) (xs : List Item) (ls : List LowItem) → AreItems p o ks n from to xs ls → Ranged from to (map item_expr ls)
 items_ranged p o ks n from to [] [] h = h
 items_ranged p o ks n from to [] (l ∷ ls) h = absurd h
-items_ranged p o ks n from to (item.Define e ∷ is) [] h = absurd h
-items_ranged p o ks n from to (item.Show name e ∷ is) [] h = absurd h
-items_ranged p o ks n from to (item.Define e ∷ is) (low_item.Show shown l ∷ ls) h = absurd h
-items_ranged p o ks n from to (item.Show name e ∷ is) (low_item.Define l ∷ ls) h = absurd h
-items_ranged p o ks n from to (item.Define e ∷ is) (low_item.Define l ∷ ls) h = (h.0, (h.1.0.sites, items_ranged p o ks (n + 1) h.0 to is ls h.1.1))
-items_ranged p o ks n from to (item.Show name e ∷ is) (low_item.Show shown l ∷ ls) h = (h.0, (h.1.1.0.sites, items_ranged p o ks n h.0 to is ls h.1.1.1))
+items_ranged p o ks n from to (x ∷ xs) [] h = absurd h
+items_ranged p o ks n from to (x ∷ xs) (l ∷ ls) h = (h.0, (item_sites p o ks n from h.0 x l h.1.0, items_ranged p o ks (n + item_binds x) h.0 to xs ls h.1.1))
 
 -- functions and items that were lowered one after the other are a lowered program
 pub lowered_whole : (p : Program) (o : Option Classes) (first mid last : Made) (l : Lowered) → first.table.functions ≡ p.functions → l.inputs ≡ p.inputs → l.events ≡ p.events → WereFunctions p o first mid l.functions → WereItems p o mid last l.body
@@ -215,8 +205,7 @@ collapses_regions p c l t given h = everywhere_in (IsPlaced p (Some c) t.kernels
     told : (s : Place) → IsPlaced p (Some c) t.kernels s → IsTrue (is_collapsed s.expr) ↔ (IsTrue (is_compound (erase t.kernels s.expr)) × IsPureExpr p (erase t.kernels s.expr))
     told s k =
         let e = erase t.kernels s.expr in
-        let law = is_pure_expr p c.closed.items c.pure.items e given in
-        (
+        let law = is_pure_expr p c.closed.items c.pure.items e given in (
           (λ h. let both = and_parts (is_compound e) (joins p (Some c) e) (sym k.collapsed ∙ h) in (both.0, law.0 both.1)),
           (λ h. k.collapsed ∙ and_from (is_compound e) (joins p (Some c) e) h.0 (law.1 h.1)),
         )

@@ -49,14 +49,29 @@ pub(crate) fn part_outside(e: &Core, number: usize) -> Option<Part<'_>>
             }
         }
         Core::If(a, b, c) => match number {
-            0 => Some(Part { binds: 0, expr: a.get() }),
-            1 => Some(Part { binds: 0, expr: b.get() }),
-            2 => Some(Part { binds: 0, expr: c.get() }),
+            0 => Some(Part {
+                binds: 0,
+                expr: a.get(),
+            }),
+            1 => Some(Part {
+                binds: 0,
+                expr: b.get(),
+            }),
+            2 => Some(Part {
+                binds: 0,
+                expr: c.get(),
+            }),
             _ => None,
         },
         Core::Feedback(a, b) => match number {
-            0 => Some(Part { binds: 0, expr: a.get() }),
-            1 => Some(Part { binds: 1, expr: b.get() }),
+            0 => Some(Part {
+                binds: 0,
+                expr: a.get(),
+            }),
+            1 => Some(Part {
+                binds: 1,
+                expr: b.get(),
+            }),
             _ => None,
         },
     }
