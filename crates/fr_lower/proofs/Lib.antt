@@ -6,4 +6,5 @@ pub mod Rows
 pub mod Joining
 pub mod Steps
 pub mod Shapes
+pub mod Added
 pub mod Whole

@@ -57,7 +57,7 @@ chained_to R from mid to (x ∷ xs) [] le h = absurd h
 chained_to R from mid to (x ∷ xs) (y ∷ ys) le h = (h.0, (h.1.0, chained_to R h.0 mid to xs ys le h.1.1))
 
 -- the sites of an expression are below any later number
-sites_to : (from mid to : ℕ) (e : Low) → mid ≤ to → HasSites from mid e → HasSites from to e
+pub sites_to : (from mid to : ℕ) (e : Low) → mid ≤ to → HasSites from mid e → HasSites from to e
 sites_to from mid to e le h = record {
   order = omega (arith, le, h.order);
   within = λ path r site a s. let w = h.within path r site a s in (w.0, omega (arith, w.1, le));

@@ -1,4 +1,4 @@
-ghost use Rattle.std.specs.Prelude.{◌≡◌, ◌+◌, IfOk, slice_get};
+ghost use Rattle.std.specs.Prelude.{◌≡◌, ◌+◌, ◌<◌, IfOk, OnSome, slice_get};
 ghost use Rattle.std.specs.Option.{option_map};
 ghost use Rattle.fr_core.specs.Shapes.{outer};
 ghost use Rattle.fr_lower.specs.Making.{outside, part_seen};
@@ -15,7 +15,8 @@ pub(crate) struct Part<'a> {
 
 /// One of these parts, for which nothing is bound.
 fn part_among(parts: &[Core], number: usize) -> Option<Part<'_>>
-    ensures { option_map part_seen result ≡ slice_get (outer parts.now) number }
+    ensures value { option_map part_seen result ≡ slice_get (outer parts.now) number }
+    ensures within { OnSome result (number < usize.MAX) }
 {
     if number < parts.len() {
         Some(Part {
@@ -29,7 +30,8 @@ fn part_among(parts: &[Core], number: usize) -> Option<Part<'_>>
 
 /// The part of a number, where the body of a handler or loop doesn't count; None where there is none.
 pub(crate) fn part_outside(e: &Core, number: usize) -> Option<Part<'_>>
-    ensures { option_map part_seen result ≡ slice_get (outside e.now) number }
+    ensures value { option_map part_seen result ≡ slice_get (outside e.now) number }
+    ensures within { OnSome result (number < usize.MAX) }
 {
     match e {
         Core::Lit(_) | Core::Var(_) | Core::Source(_) => None,

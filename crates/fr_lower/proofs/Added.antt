@@ -1,0 +1,17 @@
+-- A kernel that was added to a table.
+use Rattle.std.proofs.Common.{◌≡◌, ℕ, List, [], ◌∷◌, ◌++◌, length, slice_get, Some, Result, Ok, Err, IfOk, refl, ap, ◌∙◌}
+use Rattle.fr_value.specs.declared.ids.KernId.{KernId}
+use Rattle.fr_core.specs.declared.core_form.Core.{Core}
+use Rattle.fr_core.specs.declared.lowered.Slot.{Slot}
+use Rattle.fr_core.proofs.PartLists.{body_at}
+use Rattle.fr_kernel.specs.Kernels.{Kernel, Kernels, kernel_for}
+use Rattle.fr_kernel.specs.Slots.{slots_of}
+use Rattle.fr_lower.specs.Making.{Extends, IsKernelOf}
+
+pub added_kernel : {E : Type 0} (old new : Kernels) (first params : ℕ) (e : Core) (r : Result (KernId × List Slot) E) → IfOk r (λ a. a.0.0 ≡ length old.kernels) → IfOk r (λ a. a.1 ≡ slots_of first e)
+    → IfOk r (λ a. new ≡ record old { kernels = old.kernels ++ kernel_for first params e ∷ [] }) → IfOk r (λ a. (ks : List Kernel) → Extends new.kernels ks → IsKernelOf ks first params e a.0.0 a.1)
+added_kernel old new first params e (Err x) number slots appended = tt
+added_kernel old new first params e (Ok a) number slots appended = λ ks ext. record {
+  stands = ext a.0.0 (kernel_for first params e) (ap (λ (t : Kernels). slice_get t.kernels a.0.0) appended ∙ body_at old.kernels (kernel_for first params e) a.0.0 number);
+  reads = slots;
+}
