@@ -1,5 +1,5 @@
 -- A kernel that was added to a table.
-use Rattle.std.proofs.Common.{◌≡◌, ℕ, List, [], ◌∷◌, ◌++◌, length, slice_get, Some, Result, Ok, Err, IfOk, refl, ap, ◌∙◌}
+use Rattle.std.proofs.Common.{◌≡◌, ◌&&◌, ℕ, Bool, true, false, List, [], ◌∷◌, ◌++◌, length, slice_get, Some, Result, Ok, Err, IfOk, refl, ap, ◌∙◌}
 use Rattle.fr_value.specs.declared.ids.KernId.{KernId}
 use Rattle.fr_core.specs.declared.core_form.Core.{Core}
 use Rattle.fr_core.specs.declared.lowered.Slot.{Slot}
@@ -15,3 +15,16 @@ added_kernel old new first params e (Ok a) number slots appended = λ ks ext. re
   stands = ext a.0.0 (kernel_for first params e) (ap (λ (t : Kernels). slice_get t.kernels a.0.0) appended ∙ body_at old.kernels (kernel_for first params e) a.0.0 number);
   reads = slots;
 }
+
+-- what follows of a value follows where there is one
+pub if_ok : {T E : Type 0} (A B : T → Type 0) (r : Result T E) → ((x : T) → A x → B x) → IfOk r A → IfOk r B
+if_ok A B (Ok x) f h = f x h
+if_ok A B (Err e) f h = tt
+
+pub joined_then : (joined none more : Bool) → joined ≡ true → more ≡ none → more ≡ joined && none
+joined_then true none more h k = k
+joined_then false none more h k = absurd cc
+
+pub joined_else : (joined none more : Bool) → joined ≡ false → more ≡ false → more ≡ joined && none
+joined_else true none more h k = absurd cc
+joined_else false none more h k = k

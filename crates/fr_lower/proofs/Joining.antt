@@ -1,6 +1,7 @@
 -- Which expressions may be a part of what is computed as a whole, and what is pure because the program is fit.
-use Rattle.std.proofs.Common.{◌≡◌, ◌+◌, ◌&&◌, ◌++◌, not, ℕ, zero, suc, Bool, true, false, List, [], ◌∷◌, map, slice_get, Option, Some, None, refl, sym, ap, subst, ◌∙◌, arith}
+use Rattle.std.proofs.Common.{◌≡◌, ◌<◌, ◌+◌, ◌&&◌, ◌++◌, not, ℕ, zero, suc, Bool, true, false, List, [], ◌∷◌, map, slice_get, Option, Some, None, refl, sym, ap, subst, ◌∙◌, arith}
 use Rattle.std.proofs.lemmas.Bool.{and_parts}
+use Rattle.std.proofs.lemmas.List.{append-nil}
 use Rattle.fr_value.proofs.Meet.{same_some}
 use Rattle.fr_core.specs.Classes.{IsFitExpr, IsPureExpr, calls_of, pure_itself, body_passes, judge}
 use Rattle.fr_core.specs.Shapes.{outer, inner, parts_in, all_true}
@@ -9,6 +10,8 @@ use Rattle.fr_core.specs.declared.core_form.Core.TheOpen.{Core-F}
 use Rattle.fr_core.specs.declared.lowered.Low.{Low}
 use Rattle.fr_core.specs.declared.program.Function.{Function}
 use Rattle.fr_core.specs.declared.program.Program.{Program}
+use Rattle.fr_core.specs.WellFormed.{nesting}
+use Rattle.fr_core.proofs.Folds.{part_nests_less}
 use Rattle.fr_core.proofs.Parts.{map-map}
 use Rattle.fr_core.proofs.PartLists.{all_true-body}
 use Rattle.fr_purity.specs.declared.classification.Classes.{Classes}
@@ -117,3 +120,17 @@ found_ready p o ks fs n from to [] (l ∷ ls) given same h = absurd h
 found_ready p o ks fs n from to (x ∷ xs) [] given same h = absurd h
 found_ready p o ks fs n from to (x ∷ xs) (None ∷ ls) given same h = (can_close p o fs x.1 given same h.1.0.0, found_ready p o ks fs n h.0 to xs ls given same h.1.1)
 found_ready p o ks fs n from to (x ∷ xs) (Some l ∷ ls) given same h = (tt, found_ready p o ks fs n h.0 to xs ls given same h.1.1)
+
+seconds_at : (xs ys : List (ℕ × Core)) (i : ℕ) (x : ℕ × Core) → slice_get xs i ≡ Some x → slice_get (map (λ (y : ℕ × Core). y.1) (xs ++ ys)) i ≡ Some x.1
+seconds_at [] ys i x h = absurd cc
+seconds_at (y ∷ xs) ys zero x h = ap (λ (z : ℕ × Core). Some z.1) (same_some y x h)
+seconds_at (y ∷ xs) ys (suc i) x h = seconds_at xs ys i x h
+
+outside_is_part : (l : Core-F Core) (i : ℕ) (x : ℕ × Core) → slice_get (outside_in l) i ≡ Some x → slice_get (parts_in l) i ≡ Some x.1
+outside_is_part (Core-F.Handler g es b) i x h = seconds_at (outer es) ((_, b) ∷ []) i x h
+outside_is_part (Core-F.Loop g es b) i x h = seconds_at (outer es) ((_, b) ∷ []) i x h
+outside_is_part l i x h = subst (λ ys. slice_get (map (λ (y : ℕ × Core). y.1) ys) i ≡ Some x.1) (append-nil (inner l)) (seconds_at (inner l) [] i x h)
+
+-- the measure of a walk over these parts
+pub outside_nests_less : (e : Core) (i : ℕ) (x : ℕ × Core) → slice_get (outside e) i ≡ Some x → nesting x.1 < nesting e
+outside_nests_less e i x h = part_nests_less e x.1 i (sym (outside_is_part (out-Core e) i x h))

@@ -40,14 +40,15 @@ pub(crate) fn part_outside(e: &Core, number: usize) -> Option<Part<'_>>
         | Core::Handler(_, es, _)
         | Core::Loop(_, es, _) => part_among(es.as_slice(), number),
         Core::Let(es, body) => {
-            let binds = es.len();
+            let entries = es.as_slice();
+            let binds = entries.len();
             if number == binds {
                 Some(Part {
                     binds,
                     expr: body.get(),
                 })
             } else {
-                part_among(es.as_slice(), number)
+                part_among(entries, number)
             }
         }
         Core::If(a, b, c) => match number {

@@ -30,4 +30,7 @@ returns-in_ok-kernel-in-Loop c = λ p o apart.
     c.in-Loop.is c.bound_by_loop-binds.ensures c.in_ok-kernel-in-Loop.ensures.grows (rw c.get-in-Loop.ensures at c.in_ok-kernel-in-Loop.ensures.kernel) apart
 
 pub returns-in_ok-first-in-Feedback : goal.returns-in_ok-first-in-Feedback
-returns-in_ok-first-in-Feedback c = ?
+returns-in_ok-first-in-Feedback c = λ p o apart.
+    let two = two_parts c.args.parts c.last-in-Feedback.new.parts c.last-in-Feedback-2.new.parts c.in_ok-first-in-Feedback.first c.in_ok-body-in-Feedback.body
+    (c.requires.parts ∙ ap length (outside_feedback c.args.e.now c.in-Feedback.field-0 c.in-Feedback.field-1 c.in-Feedback.is)) c.in_ok-body-in-Feedback.ensures c.in_ok-first-in-Feedback.ensures in
+    built_feedback p o c.args.variables c.args.made.now c.args.e.now c.in-Feedback.field-0 c.in-Feedback.field-1 c.args.parts c.in_ok-first-in-Feedback.first c.in_ok-body-in-Feedback.body c.in-Feedback.is two apart
