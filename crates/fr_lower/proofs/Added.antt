@@ -1,5 +1,6 @@
 -- A kernel that was added to a table.
-use Rattle.std.proofs.Common.{◌≡◌, ◌&&◌, ℕ, Bool, true, false, List, [], ◌∷◌, ◌++◌, length, slice_get, Some, Result, Ok, Err, IfOk, refl, ap, ◌∙◌}
+use Rattle.std.proofs.Common.{◌≡◌, ◌&&◌, ℕ, Bool, true, false, not, List, [], ◌∷◌, ◌++◌, length, drop, slice_get, Option, Some, None, is_none, Result, Ok, Err, IfOk, refl, ap, ◌∙◌, arith, length-drop}
+use Rattle.std.specs.Option.{is_some}
 use Rattle.fr_value.specs.declared.ids.KernId.{KernId}
 use Rattle.fr_core.specs.declared.core_form.Core.{Core}
 use Rattle.fr_core.specs.declared.lowered.Slot.{Slot}
@@ -28,3 +29,15 @@ joined_then false none more h k = absurd cc
 pub joined_else : (joined none more : Bool) → joined ≡ false → more ≡ false → more ≡ joined && none
 joined_else true none more h k = absurd cc
 joined_else false none more h k = k
+
+-- what is none isn't some
+pub none_told : {A : Type 0} (o : Option A) (t : Bool) → is_some o ≡ not t → t ≡ is_none o
+none_told None true h = refl
+none_told None false h = absurd cc
+none_told (Some x) true h = absurd cc
+none_told (Some x) false h = refl
+
+-- a list is empty where nothing comes off its front
+pub nothing_off : {A : Type 0} (xs : List A) → xs ≡ drop 1 xs → xs ≡ []
+nothing_off [] h = refl
+nothing_off (x ∷ xs) h = absurd (omega (arith, ap length h, length-drop 1 (x ∷ xs)))

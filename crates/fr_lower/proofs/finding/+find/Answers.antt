@@ -1,7 +1,7 @@
 use Rattle.std.proofs.Common.{◌≡◌, ◌+◌, ◌&&◌, is_none, drop, sym, ◌∙◌, arith}
 use Rattle.fr_core.proofs.PartLists.{within_parts, drop_part, drop_none}
 use Rattle.fr_lower.specs.Making.{given, outside, part_seen}
-use Rattle.fr_lower.proofs.Added.{joined_then, joined_else}
+use Rattle.fr_lower.proofs.Added.{joined_then, joined_else, none_told}
 use Rattle.fr_lower.proofs.Joining.{fit_outside, outside_nests_less, compound_apart, body_ready}
 use Rattle.fr_lower.proofs.Rows.{closed_length}
 use Rattle.fr_lower.proofs.Steps.{gathers_first, gathers_next, gathered, found_none, found_some, gathered_ready}
@@ -26,8 +26,8 @@ pub loop-part-preserved : goal.loop-part-preserved
 loop-part-preserved t c =
     let joined : c.if-joins.joins ≡ c.loop-part.joins && is_none c.in_ok-lowered.lowered
     = elim c.if-joins.branch [
-      | then-joins w ↦ joined_then c.loop-part.joins (is_none c.in_ok-lowered.lowered) c.if-joins.joins w.if-joins.true (w.joins-is ∙ w.is_none-joins.ensures)
-      | else-joins w ↦ joined_else c.loop-part.joins (is_none c.in_ok-lowered.lowered) c.if-joins.joins w.if-joins.false w.joins-is
+      | then-joins w ↦ joined_then c.loop-part.joins (is_none c.in_ok-lowered.lowered) c.if-joins.joins w.if-joins.true (w.joins-is ∙ none_told c.in_ok-lowered.lowered w.is_none-joins.result w.is_none-joins.ensures)
+      | else-joins w ↦ joined_else c.loop-part.joins (is_none c.in_ok-lowered.lowered) c.if-joins.joins w.if-joins.false (w.joins-is ∙ w.if-joins.false)
     ] in
     rw c.in_ok-push_back.ensures.items
     (gathers_next c.args.program.now (given c.args.classes) c.args.variables c.in_ok-inside.inside c.args.made.now c.loop-part.made c.find.new.made c.args.e.now c.loop-part.found.items c.loop-part.joins (part_seen c.in-Some.part)
