@@ -1,6 +1,11 @@
 mod Runs
 mod Numbers
 mod Copies
+mod InOrder
+mod Gathering
+mod Restoring
+mod Standing
+mod Turning
 mod Tables
 mod Operands
 mod Purity

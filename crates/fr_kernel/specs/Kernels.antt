@@ -1,5 +1,5 @@
 -- The kernels of a program, as contracts see them.
-use Rattle.std.specs.Prelude.{◌≡◌, ℕ, ◌+◌, List, ◌++◌, map, length, drop, slice_get, Ok, refl}
+use Rattle.std.specs.Prelude.{◌≡◌, ℕ, ◌+◌, List, ◌++◌, map, length, slice_get, Ok, refl}
 use Rattle.std.specs.Coded.{Coded, code_by, coded×, coded_ℕ, coded_list}
 use Rattle.fr_value.specs.declared.now.Now.{Now}
 use Rattle.fr_core.specs.declared.core_form.Core.{Core}
@@ -54,12 +54,13 @@ abbrev pub slot_seen : List Now → Env → Slot → Seen
 slot_seen sources env (slot.Var x) = part env x.0
 slot_seen sources env (slot.Source x) = source_seen (slice_get sources x.0)
 
--- a kernel is run over these values where its variables and sources have theirs: first those of its parameters, then those of its other slots
-pub record AreInputs (k : Kernel) (sources : List Now) (env : Env) (inputs : List Now) : Type 0 where
-  pub scope : length env ≡ k.first + k.params
-  pub values : map (λ v. Ok v) inputs ≡ drop k.first env ++ map (slot_seen sources env) k.slots
+-- the values that a kernel is run over, where the variables around its expression, its parameters and the sources have these: first those of the parameters, then those of its other slots
+pub record AreInputs (k : Kernel) (sources : List Now) (env args : Env) (inputs : List Now) : Type 0 where
+  pub around : length env ≡ k.first
+  pub params : length args ≡ k.params
+  pub values : map (λ v. Ok v) inputs ≡ args ++ map (slot_seen sources env) k.slots
 
--- a loop is run over these values behind the first accumulator and the list or count where the variables around its body and the sources have theirs: those of the body's slots other than its parameters
+-- the values that a loop is run over behind the first accumulator and the list or count, where the variables around its body and the sources have these: those of the slots of the body other than its parameters
 pub record AreOthers (k : Kernel) (sources : List Now) (env : Env) (others : List Now) : Type 0 where
-  pub scope : length env ≡ k.first
+  pub around : length env ≡ k.first
   pub values : map (λ v. Ok v) others ≡ map (slot_seen sources env) k.slots

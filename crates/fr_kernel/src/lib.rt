@@ -14,6 +14,6 @@ mod table;
 mod walking;
 
 pub use fuel::{Fuel, KernStop};
-pub use laws::numbering_keeps_the_meaning;
+pub use laws::{equal_inputs_tell_the_same, numbering_keeps_the_meaning};
 pub use machine::Machine;
 pub use table::{KernTable, run_fold, run_kern, run_repeat};

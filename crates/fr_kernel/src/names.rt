@@ -1,7 +1,7 @@
-ghost use Rattle.std.specs.Prelude.{◌≡◌, ◌+◌, IfOk};
+ghost use Rattle.std.specs.Prelude.{◌≡◌, ◌+◌, ◌++◌, IfOk, OnOk, map};
 ghost use Rattle.fr_kernel.specs.Numbers.{index_of, before_params, variable_slot, source_slot};
 ghost use Rattle.fr_kernel.specs.Placed.{scheme_of, scheme_for};
-ghost use Rattle.fr_kernel.specs.Slots.{slots_for};
+ghost use Rattle.fr_kernel.specs.Slots.{slot_of_variable, slot_of_source, slots_for};
 
 use crate::naming::{in_order, names_into};
 use fr_core::{Core, Slot};
@@ -55,6 +55,24 @@ fn slot_at(n: usize) -> Result<u32, AllocError>
     }
 }
 
+fn push_variables(slots: &mut Items<Slot>, variables: &[u32]) -> Result<(), AllocError>
+    ensures { OnOk result (slots.new ≡ slots.old ++ map slot_of_variable variables.now) }
+{
+    for variable in variables {
+        slots.push(Slot::Var(VarId(*variable)))?;
+    }
+    Ok(())
+}
+
+fn push_sources(slots: &mut Items<Slot>, sources: &[u32]) -> Result<(), AllocError>
+    ensures { OnOk result (slots.new ≡ slots.old ++ map slot_of_source sources.now) }
+{
+    for source in sources {
+        slots.push(Slot::Source(SrcId(*source)))?;
+    }
+    Ok(())
+}
+
 impl Names {
     /// What the kernel of an expression reads from its place. It fails only where there is no memory.
     pub(crate) fn of(
@@ -81,12 +99,8 @@ impl Names {
         ensures { IfOk result (λ ss. ss ≡ slots_for self.now.outer self.now.sources) }
     {
         let mut slots = Items::new(alloc);
-        for variable in self.outer.as_slice() {
-            slots.push(Slot::Var(VarId(*variable)))?;
-        }
-        for source in self.sources.as_slice() {
-            slots.push(Slot::Source(SrcId(*source)))?;
-        }
+        push_variables(&mut slots, self.outer.as_slice())?;
+        push_sources(&mut slots, self.sources.as_slice())?;
         Ok(slots)
     }
 

@@ -131,7 +131,7 @@ pub fn run_kern(
 ) -> Result<Now, KernStop>
     requires number { id.0 < length table.now.kernels }
     requires inputs { (k : Kernel) → slice_get table.now.kernels id.0 ≡ Some k → length inputs.now ≡ inputs_of k }
-    ensures { (k : Kernel) (sources : List AnyNow) (env : Env) → slice_get table.now.kernels id.0 ≡ Some k → AreInputs k sources env inputs.now → (kept : Kept) → Ran result fuel.old.left fuel.new.left (eval (world_at table.now sources) nest k.expr env kept) }
+    ensures { (k : Kernel) (sources : List AnyNow) (env args : Env) → slice_get table.now.kernels id.0 ≡ Some k → AreInputs k sources env args inputs.now → (kept : Kept) → Ran result fuel.old.left fuel.new.left (eval (world_at table.now sources) nest k.expr (env ++ args) kept) }
 {
     let kernel = &table.kernels.as_slice()[id.0 as usize];
     run(
