@@ -1,5 +1,5 @@
 -- The erasure of a lowered expression, shape by shape.
-use Rattle.std.proofs.Common.{◌≡◌, List, map, refl, ap, ◌∙◌}
+use Rattle.std.proofs.Common.{◌≡◌, List, map, ap, ◌∙◌}
 use Rattle.fr_value.specs.declared.ids.FunId.{FunId}
 use Rattle.fr_value.specs.declared.ids.KernId.{KernId}
 use Rattle.fr_value.specs.declared.ids.SiteId.{SiteId}

@@ -1,9 +1,9 @@
 -- Which expressions may be a part of what is computed as a whole, and what is pure because the program is fit.
-use Rattle.std.proofs.Common.{◌≡◌, ◌<◌, ◌+◌, ◌&&◌, ◌++◌, not, ℕ, zero, suc, Bool, true, false, List, [], ◌∷◌, map, slice_get, Option, Some, None, refl, sym, ap, subst, ◌∙◌, arith}
+use Rattle.std.proofs.Common.{◌≡◌, ◌<◌, ◌&&◌, ◌++◌, not, ℕ, zero, suc, Bool, true, false, List, [], ◌∷◌, map, slice_get, Option, Some, None, refl, sym, ap, subst, ◌∙◌}
 use Rattle.std.proofs.lemmas.Bool.{and_parts}
 use Rattle.std.proofs.lemmas.List.{append-nil}
 use Rattle.fr_value.proofs.Meet.{same_some}
-use Rattle.fr_core.specs.Classes.{IsFitExpr, IsPureExpr, calls_of, pure_itself, body_passes, judge}
+use Rattle.fr_core.specs.Classes.{IsFitExpr, calls_of, pure_itself, body_passes}
 use Rattle.fr_core.specs.Shapes.{outer, inner, parts_in, all_true}
 use Rattle.fr_core.specs.declared.core_form.Core.{Core, out-Core}
 use Rattle.fr_core.specs.declared.core_form.Core.TheOpen.{Core-F}
@@ -15,13 +15,12 @@ use Rattle.fr_core.proofs.Folds.{part_nests_less}
 use Rattle.fr_core.proofs.Parts.{map-map}
 use Rattle.fr_core.proofs.PartLists.{all_true-body}
 use Rattle.fr_purity.specs.declared.classification.Classes.{Classes}
-use Rattle.fr_purity.specs.Marks.{set_of, AreClasses}
+use Rattle.fr_purity.specs.Marks.{set_of}
 use Rattle.fr_purity.proofs.Parts.{pure_in, fit_in, pure-opens, fit-opens}
 use Rattle.fr_purity.proofs.ClassLemmas.{is_pure_expr, is_fit_expr}
 use Rattle.fr_kernel.specs.Kernels.{Kernel}
-use Rattle.fr_kernel.specs.Purity.{IsPureOver}
 use Rattle.fr_kernel.specs.Erasure.{is_compound, is_compound_in}
-use Rattle.fr_lower.specs.Making.{AreGiven, joins_itself, joins, outside_in, outside, IsFound, AreFound, CanClose, AreReady, HasReadyBody, has_ready_body_in}
+use Rattle.fr_lower.specs.Making.{AreGiven, joins_itself, joins, outside_in, outside, AreFound, CanClose, AreReady, HasReadyBody, has_ready_body_in}
 
 seconds : (f : Core → Bool) (es : List Core) → map (λ (x : ℕ × Core). f x.1) (outer es) ≡ map f es
 seconds f [] = refl

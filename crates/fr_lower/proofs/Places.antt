@@ -1,9 +1,9 @@
 -- What holds at a place and at all places below it.
-use Rattle.std.proofs.Common.{◌≡◌, ◌+◌, ℕ, zero, suc, List, [], ◌∷◌, slice_get, Option, Some, None, refl, sym, subst, ap}
+use Rattle.std.proofs.Common.{◌≡◌, ◌+◌, ℕ, zero, suc, List, [], ◌∷◌, slice_get, Some, sym, subst}
 use Rattle.std.specs.Option.{option_and_then}
 use Rattle.fr_value.proofs.Meet.{same_some}
 use Rattle.fr_core.specs.declared.lowered.Low.{Low, out-Low}
-use Rattle.fr_kernel.specs.Erasure.{Place, place_below, Everywhere, EverywhereIn, inner_low, top_places}
+use Rattle.fr_kernel.specs.Erasure.{Place, place_below, Everywhere, inner_low}
 
 -- the fact holds everywhere in each of these
 abbrev pub AllEverywhere : (Place → Type 0) → ℕ → List (ℕ × Low) → Type 0

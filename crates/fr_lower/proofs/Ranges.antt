@@ -1,5 +1,5 @@
 -- The sites of expressions that follow one another, each over a range of numbers of its own.
-use Rattle.std.proofs.Common.{◌≡◌, ◌+◌, ◌≤◌, ◌<◌, ℕ, zero, suc, List, [], ◌∷◌, ◌++◌, slice_get, Option, Some, None, refl, sym, ap, ◌∙◌, arith}
+use Rattle.std.proofs.Common.{◌≡◌, ◌+◌, ◌≤◌, ◌<◌, ℕ, zero, suc, List, [], ◌∷◌, ◌++◌, Some, None, refl, sym, ap, ◌∙◌, arith}
 use Rattle.fr_value.proofs.Meet.{same_some}
 use Rattle.fr_value.specs.declared.ids.SiteId.{SiteId}
 use Rattle.fr_core.specs.declared.lowered.Low.{Low}

@@ -1,5 +1,5 @@
 -- Parts that were lowered, in their order.
-use Rattle.std.proofs.Common.{◌≡◌, ◌+◌, ◌≤◌, ◌&&◌, ℕ, suc, Bool, true, false, List, [], ◌∷◌, ◌++◌, map, length, Option, Some, None, is_none, refl, sym, ap, subst, ◌∙◌, arith}
+use Rattle.std.proofs.Common.{◌≡◌, ◌+◌, ◌≤◌, ◌&&◌, ℕ, suc, Bool, true, false, List, [], ◌∷◌, ◌++◌, map, length, Option, Some, None, refl, sym, ap, subst, ◌∙◌, arith}
 use Rattle.std.proofs.lemmas.List.{length-map}
 use Rattle.fr_core.specs.declared.core_form.Core.{Core}
 use Rattle.fr_core.specs.declared.lowered.Low.{Low}
@@ -7,7 +7,7 @@ use Rattle.fr_core.specs.declared.program.Program.{Program}
 use Rattle.fr_core.specs.Shapes.{outer}
 use Rattle.fr_purity.specs.declared.classification.Classes.{Classes}
 use Rattle.fr_kernel.specs.Kernels.{Kernel}
-use Rattle.fr_kernel.specs.Erasure.{Place, erase, is_collapsed, is_compound}
+use Rattle.fr_kernel.specs.Erasure.{Place, erase, is_compound}
 use Rattle.fr_lower.specs.Chains.{Chained}
 use Rattle.fr_lower.specs.Making.{joins, collapses, HasSites, IsPlaced, IsMade, IsFound, AreFound, AreMade, IsWhole, IsClosed, AreClosed}
 use Rattle.fr_lower.proofs.Places.{AllEverywhere, everywhere}

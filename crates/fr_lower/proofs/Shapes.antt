@@ -1,5 +1,5 @@
 -- What is built of lowered parts, shape by shape.
-use Rattle.std.proofs.Common.{◌≡◌, ◌+◌, ◌≤◌, ◌<◌, ◌&&◌, ℕ, zero, suc, Bool, true, false, List, [], ◌∷◌, ◌++◌, map, length, slice_get, Option, Some, None, refl, sym, ap, subst, ◌∙◌, arith}
+use Rattle.std.proofs.Common.{◌≡◌, ◌+◌, ◌&&◌, ℕ, Bool, true, false, List, [], ◌∷◌, ◌++◌, length, Option, None, refl, sym, ap, subst, ◌∙◌, arith}
 use Rattle.std.proofs.lemmas.List.{length-append}
 use Rattle.fr_value.specs.declared.ids.FunId.{FunId}
 use Rattle.fr_value.specs.declared.ids.KernId.{KernId}
@@ -19,16 +19,15 @@ use Rattle.fr_core.specs.declared.lowered.Low.TheVariants as low
 use Rattle.fr_core.specs.declared.lowered.Slot.{Slot}
 use Rattle.fr_core.specs.declared.program.Program.{Program}
 use Rattle.fr_core.specs.Shapes.{outer, handler_binds, loop_binds}
-use Rattle.fr_core.specs.Sites.{parts, parts_at, site_at, site_of}
+use Rattle.fr_core.specs.Sites.{parts_at, site_at}
 use Rattle.fr_purity.specs.declared.classification.Classes.{Classes}
 use Rattle.fr_kernel.specs.Kernels.{Kernel, kernel_for}
-use Rattle.fr_kernel.specs.Slots.{slots_of}
-use Rattle.fr_kernel.specs.Erasure.{Place, erase, expr_in, kernel_expr, inner_low, named_in, Named, Fits, FitsIfNamed, FitsPlace, is_collapsed, is_collapsed_in, is_compound, is_compound_in}
+use Rattle.fr_kernel.specs.Erasure.{erase, expr_in, kernel_expr, inner_low, named_in, Fits, FitsIfNamed, is_collapsed_in, is_compound, is_compound_in}
 use Rattle.fr_lower.specs.declared.making.Made.{Made}
 use Rattle.fr_lower.specs.Making.{joins, collapses, outside, outside_in, Extends, Grows, HasSites, IsPlaced, IsMade, AreMade, IsKernelOf, IsWhole, WasWhole, WasBuilt}
 use Rattle.fr_lower.proofs.Places.{AllEverywhere, everywhere}
 use Rattle.fr_lower.proofs.Ranges.{Ranged, sites_below, sites_own}
-use Rattle.fr_lower.proofs.Rows.{Laid, outer_made, let_made, body_made, made_to, sites_to}
+use Rattle.fr_lower.proofs.Rows.{outer_made, let_made, made_to}
 use Rattle.fr_lower.proofs.Steps.{grows_refl}
 use Rattle.fr_lower.proofs.Erasing.{erased_lit, erased_var, erased_source, erased_let, erased_if, erased_apply, erased_operator, erased_handler, erased_loop, erased_feedback, erased_collapse}
 

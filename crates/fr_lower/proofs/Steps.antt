@@ -1,5 +1,5 @@
 -- What is known between two parts: of what was found of them, and of what was closed.
-use Rattle.std.proofs.Common.{◌≡◌, ◌+◌, ◌≤◌, ◌&&◌, ℕ, Bool, true, false, List, [], ◌∷◌, ◌++◌, map, length, slice_get, Option, Some, None, is_none, refl, sym, ap, subst, ◌∙◌, append_assoc, arith}
+use Rattle.std.proofs.Common.{◌≡◌, ◌+◌, ◌&&◌, ℕ, Bool, true, false, List, [], ◌∷◌, ◌++◌, map, Option, Some, None, is_none, refl, sym, ap, subst, ◌∙◌, append_assoc, arith}
 use Rattle.std.proofs.lemmas.List.{append-nil}
 use Rattle.fr_core.specs.Classes.{IsFitExpr}
 use Rattle.fr_core.specs.Shapes.{all_true}
@@ -9,12 +9,10 @@ use Rattle.fr_core.specs.declared.program.Function.{Function}
 use Rattle.fr_core.specs.declared.program.Program.{Program}
 use Rattle.fr_purity.specs.declared.classification.Classes.{Classes}
 use Rattle.fr_kernel.specs.Kernels.{Kernel}
-use Rattle.fr_kernel.specs.Purity.{IsPureOver}
-use Rattle.fr_kernel.specs.Erasure.{is_compound}
 use Rattle.fr_lower.specs.declared.making.Made.{Made}
-use Rattle.fr_lower.specs.Making.{AreGiven, joins_itself, joins, outside, Extends, Grows, IsMade, IsFound, AreFound, AreMade, WasFound, WasMade, WasWhole, IsReady, AreReady, AreClosed, WasClosed, WereClosed, HasReadyBody, WasBuilt}
-use Rattle.fr_lower.proofs.Joining.{joins-opens, found_ready, body_ready}
-use Rattle.fr_lower.proofs.Rows.{closed_made, closed_length, chained_to, whole_made}
+use Rattle.fr_lower.specs.Making.{AreGiven, joins_itself, joins, outside, Extends, Grows, IsMade, IsFound, AreFound, AreMade, WasFound, WasMade, WasWhole, AreReady, AreClosed, WasClosed, WereClosed, WasBuilt}
+use Rattle.fr_lower.proofs.Joining.{joins-opens, found_ready}
+use Rattle.fr_lower.proofs.Rows.{closed_made, chained_to, whole_made}
 
 pub grows_refl : (m : Made) → Grows m m
 grows_refl m = record { functions = refl; kernels = λ id k h. h; sites = omega arith }

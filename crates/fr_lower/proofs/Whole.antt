@@ -1,12 +1,10 @@
 -- A program whose functions and items were lowered.
-use Rattle.std.proofs.Common.{◌≡◌, ◌+◌, ◌≤◌, ◌↔◌, IsTrue, ◌&&◌, not, ℕ, zero, suc, Bool, true, false, List, [], ◌∷◌, ◌++◌, map, length, slice_get, Option, Some, None, refl, sym, ap, subst, ◌∙◌, append_assoc, arith}
+use Rattle.std.proofs.Common.{◌≡◌, ◌+◌, ◌↔◌, IsTrue, ◌&&◌, not, ℕ, zero, suc, Bool, true, false, List, [], ◌∷◌, ◌++◌, map, slice_get, Option, Some, None, refl, sym, ap, subst, ◌∙◌, append_assoc, arith}
 use Rattle.std.proofs.lemmas.Bool.{and_parts, and_from}
 use Rattle.std.proofs.lemmas.List.{append-nil}
 use Rattle.fr_value.proofs.Meet.{same_some}
 use Rattle.fr_core.specs.Classes.{IsFit, IsFitExpr, IsPureExpr}
-use Rattle.fr_core.specs.WellFormed.{Root, roots, item_roots}
-use Rattle.fr_core.specs.declared.core_form.Core.{Core}
-use Rattle.fr_core.specs.declared.lowered.Low.{Low}
+use Rattle.fr_core.specs.WellFormed.{Root, item_roots}
 use Rattle.fr_core.specs.declared.lowered.LowFunction.{LowFunction}
 use Rattle.fr_core.specs.declared.lowered.LowItem.{LowItem}
 use Rattle.fr_core.specs.declared.lowered.LowItem.TheVariants as low_item
@@ -15,15 +13,15 @@ use Rattle.fr_core.specs.declared.program.Function.{Function}
 use Rattle.fr_core.specs.declared.program.Item.{Item}
 use Rattle.fr_core.specs.declared.program.Item.TheVariants as item
 use Rattle.fr_core.specs.declared.program.Program.{Program}
-use Rattle.fr_core.specs.Sites.{HasSitesOnce, bodies, item_expr}
+use Rattle.fr_core.specs.Sites.{bodies, item_expr}
 use Rattle.fr_purity.specs.declared.classification.Classes.{Classes}
 use Rattle.fr_purity.specs.Marks.{AreClasses}
 use Rattle.fr_purity.proofs.ClassLemmas.{is_pure_expr}
 use Rattle.fr_kernel.specs.Kernels.{Kernel, Kernels}
-use Rattle.fr_kernel.specs.Erasure.{Place, Everywhere, EverywhereIn, erase, erased, erased_function, erased_item, item_places, top_places, AllFit, CollapsesRegions, CollapsesNothing, is_collapsed, is_compound}
+use Rattle.fr_kernel.specs.Erasure.{Place, Everywhere, EverywhereIn, erase, erased_function, erased_item, item_places, top_places, AllFit, CollapsesRegions, CollapsesNothing, is_collapsed, is_compound}
 use Rattle.fr_lower.specs.declared.making.Made.{Made}
-use Rattle.fr_lower.specs.Making.{AreGiven, joins, collapses, Extends, Grows, HasSites, IsPlaced, IsMade, WasMade}
-use Rattle.fr_lower.specs.Tops.{IsFunction, AreFunctions, IsItem, expr_of_item, item_binds, AreItems, WasItem, WereFunctions, WereItems, IsLowered}
+use Rattle.fr_lower.specs.Making.{joins, Extends, Grows, HasSites, IsPlaced, WasMade}
+use Rattle.fr_lower.specs.Tops.{AreFunctions, IsItem, expr_of_item, item_binds, AreItems, WasItem, WereFunctions, WereItems, IsLowered}
 use Rattle.fr_lower.proofs.Ranges.{Ranged, ranged_append, ranged_once}
 use Rattle.fr_lower.proofs.Steps.{grows_refl, grows_more}
 

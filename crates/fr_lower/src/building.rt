@@ -53,7 +53,8 @@ pub(crate) fn build(
     requires compound { is_compound e.now ≡ true }
     requires parts { length parts ≡ length (outside e.now) }
     requires body { HasReadyBody made.old.table.functions e.now }
-    ensures { IfOk result (λ l. (p : AnyProgram) (o : Optional AnyClasses) → joins p o e.now ≡ false → WasBuilt p o variables made.old made.new e.now parts l) }
+    ensures { IfOk result (λ l. (p : AnyProgram) (o : Optional AnyClasses) → joins p o e.now ≡ false
+        → WasBuilt p o variables made.old made.new e.now parts l) }
 {
     match e {
         Core::Lit(_) | Core::Var(_) | Core::Source(_) => unreachable!(),

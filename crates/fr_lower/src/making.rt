@@ -29,12 +29,14 @@ pub(crate) fn add_kernel(
 ) -> Result<(KernId, Items<Slot>), AllocError>
     requires { IsPureOver made.old.table.functions expr.now }
     ensures grows { OnOk result (Grows made.old made.new) }
-    ensures kernel { IfOk result (λ added. (ks : List Kernel) → Extends made.new.table.kernels ks → IsKernelOf ks first params expr.now added.0.0 added.1) }
+    ensures kernel { IfOk result (λ added. (ks : List Kernel) → Extends made.new.table.kernels ks
+        → IsKernelOf ks first params expr.now added.0.0 added.1) }
 {
     made.table.add(alloc, expr, first, params)
 }
 
-/// A number for a site. It fails only where more were given than can be counted.
+/// A number for a site. It fails only where more were given than can be counted, while a well-formed program has fewer
+/// than 2^40 expressions.
 pub(crate) fn next_site(made: &mut Made) -> Result<SiteId, AllocError>
     ensures number { IfOk result (λ site. site.0 ≡ made.old.sites) }
     ensures counted { OnOk result (made.new ≡ record made.old { sites = made.old.sites + 1 }) }
