@@ -1,4 +1,5 @@
 pub mod Answers
+pub mod Erasure
 pub mod Kernels
 pub mod Loops
 pub mod Numbers
