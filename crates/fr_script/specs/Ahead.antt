@@ -37,6 +37,10 @@ set_in p time e =
 abbrev pub closed_by : Option Inputs → ℕ → Option Inputs
 closed_by last time = if begins last time then last else None
 
+-- setting a value at a time made this instant whole, and led from the one past to the other
+abbrev pub IsSetIn : Past → ℕ → Entry → Option Inputs → Past → Type 0
+IsSetIn old time e closed new = (closed ≡ closed_by old.last time) × (new ≡ set_in old time e)
+
 -- there is an instant, and it has no value for the source
 abbrev pub CanJoin : Option Inputs → SrcId → Type 0
 CanJoin None source = ⊥

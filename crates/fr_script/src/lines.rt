@@ -66,7 +66,8 @@ fn has_more(bytes: &[u8]) -> bool
 
 /// The number that these digits write, or the greatest of 64 bits where it is greater; None where they aren't digits alone.
 fn number(digits: &[u8]) -> Option<u64>
-    ensures { MatchOption result (is_numeral digits.now ≡ false) (λ n. (is_numeral digits.now ≡ true) × (n ≡ min (digits_value 10 digits.now) greatest_number)) }
+    ensures { MatchOption result (is_numeral digits.now ≡ false)
+        (λ n. (is_numeral digits.now ≡ true) × (n ≡ min (digits_value 10 digits.now) greatest_number)) }
 {
     if digits.is_empty() {
         return None;

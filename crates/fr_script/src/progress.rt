@@ -4,7 +4,7 @@ ghost use Rattle.std.specs.Prelude.{◌≡◌, ◌+◌, ◌<◌, ◌≤◌, IfOk
 ghost use Rattle.fr_script.specs.Limits.{script_limit, instant_limit};
 ghost use Rattle.fr_script.specs.Instants.{alone};
 ghost use Rattle.fr_script.specs.Kinds.{is_long, is_beyond, is_time, is_full, is_wrong, begins, stands, last_time};
-ghost use Rattle.fr_script.specs.Ahead.{none_before, passed, set_in, closed_by, CanJoin, MaySet, joins};
+ghost use Rattle.fr_script.specs.Ahead.{none_before, passed, IsSetIn, CanJoin, MaySet, joins};
 
 use fr_core::{Entry, Inputs, Sets};
 use fr_value::SrcId;
@@ -180,7 +180,7 @@ impl Progress {
     ) -> Result<Option<Inputs>, AllocError>
         requires begins { begins self.old.last time ≡ true }
         requires room { self.old.count < instant_limit }
-        ensures ok { IfOk result (λ closed. (closed ≡ closed_by self.old.last time) × (self.new ≡ set_in self.old time entry)) }
+        ensures ok { IfOk result (λ closed. IsSetIn self.old time entry closed self.new) }
         ensures err { OnErr result (self.new ≡ self.old) }
     {
         let inputs = alone(alloc, time, entry)?;
@@ -191,7 +191,7 @@ impl Progress {
     fn join(&mut self, time: u64, entry: Entry) -> Result<(), AllocError>
         requires begins { begins self.old.last time ≡ false }
         requires free { CanJoin self.old.last entry.source }
-        ensures ok { IfOk result (λ _. (None ≡ closed_by self.old.last time) × (self.new ≡ set_in self.old time entry)) }
+        ensures ok { IfOk result (λ _. IsSetIn self.old time entry None self.new) }
         ensures err { OnErr result (self.new ≡ self.old) }
     {
         add(&mut self.last, entry)
@@ -205,7 +205,7 @@ impl Progress {
         entry: Entry,
     ) -> Result<Option<Inputs>, AllocError>
         requires { MaySet self.old time entry.source }
-        ensures ok { IfOk result (λ closed. (closed ≡ closed_by self.old.last time) × (self.new ≡ set_in self.old time entry)) }
+        ensures ok { IfOk result (λ closed. IsSetIn self.old time entry closed self.new) }
         ensures err { OnErr result (self.new ≡ self.old) }
     {
         if self.begins(time) {
