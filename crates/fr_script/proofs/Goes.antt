@@ -150,12 +150,6 @@ full_steps_at r rest new n t same h k l e f =
     full_steps r new n t h k l (e ∙ ap (λ x. turn_of (says (get_by_text r.names) r.past (take n x) (n + 1)) r.past) same)
     (f ∙ ap (λ x. behind_line (says (get_by_text r.names) r.past (take n x) (n + 1)) (with_rest r x) (n + 1)) same)
 
-pub steps_from : (r : LineReader) (rest : List ℕ) (t : Option Turn) (new : LineReader) → rest ≡ r.rest → Steps t (with_rest r rest) new → Steps t r new
-steps_from r rest t new same h = subst (λ x. Steps t (with_rest r x) new) same h
-
-pub goes_from : (r : LineReader) (rest : List ℕ) (t : Turn) (new : LineReader) → rest ≡ r.rest → TurnGoes t (with_rest r rest) new → TurnGoes t r new
-goes_from r rest t new same h = subst (λ x. TurnGoes t (with_rest r x) new) same h
-
 -- a newline in what follows is behind all that is left
 end_append : (xs ys : List ℕ) → line_end xs ≡ None → line_end (xs ++ ys) ≡ option_map (λ n. length xs + n) (line_end ys)
 end_append xs ys h =
