@@ -4,18 +4,14 @@ use Rattle.std.proofs.lemmas.List.{append-nil, drop_all, take_all, length-take, 
 use Rattle.fr_core.specs.declared.inputs.Inputs.{Inputs}
 use Rattle.fr_script.specs.declared.reader.ScriptReader.{ScriptReader}
 use Rattle.fr_script.specs.declared.turn.LineKind.{LineKind}
-use Rattle.fr_script.specs.declared.turn.Turn.{Turn}
+use Rattle.fr_script.specs.Limits.{script_limit}
 use Rattle.fr_script.specs.Sources.{Named}
 use Rattle.fr_script.specs.Instants.{whole, bad_line}
-use Rattle.fr_script.specs.Stands.{Stands, MayFollow, is_told, IsNext, IsAll, IsBad, TurnSays, given_after}
+use Rattle.fr_script.specs.Stands.{Stands, MayFollow, is_told, IsNext, IsAll, IsBad}
 use Rattle.fr_script.proofs.Limits.{good_is_short}
 use Rattle.fr_show.specs.declared.stop.Stop.TheVariants as stop
 use Rattle.fr_show.specs.Output.{script_end}
 use Rattle.fr_run.specs.Scripts.{IsFed, ahead, Gives, EndsAt}
-
--- what a turn tells
-abbrev pub TurnTells : ScriptReader → ScriptReader → Turn → Type 0
-TurnTells r q t = (ss : List Named) (fed : List ℕ) (given : ℕ) → Stands r ss fed given → TurnSays t ss fed (is_told r) given × Stands q ss fed (given_after t given)
 
 -- a reader that gave an instant stands behind it
 pub gives_instant : (r q : ScriptReader) (i : Inputs) → is_told q ≡ is_told r
@@ -94,7 +90,7 @@ fed_whole r ss bytes file limit stands told short is =
 
 -- a reader of more bytes than a script may have
 pub fed_front : (r : ScriptReader) (ss : List Named) (bytes file : List ℕ) (limit : ℕ) → Stands r ss bytes 0 → is_told r ≡ false
-    → limit < length bytes → 1099511627776 ≤ limit → bytes ≡ take (limit + 1) file → IsFed r ss file 0
+    → limit < length bytes → script_limit ≤ limit → bytes ≡ take (limit + 1) file → IsFed r ss file 0
 fed_front r ss bytes file limit stands told long most is =
     record {
       fed = bytes;
@@ -106,7 +102,7 @@ fed_front r ss bytes file limit stands told long most is =
     }
 
 -- these bytes themselves, which are more than a script may have
-pub fed_itself : (r : ScriptReader) (ss : List Named) (bytes : List ℕ) → Stands r ss bytes 0 → is_told r ≡ false → 1099511627776 < length bytes → IsFed r ss bytes 0
+pub fed_itself : (r : ScriptReader) (ss : List Named) (bytes : List ℕ) → Stands r ss bytes 0 → is_told r ≡ false → script_limit < length bytes → IsFed r ss bytes 0
 fed_itself r ss bytes stands told long = record {
   fed = bytes;
   behind = [];

@@ -12,22 +12,23 @@ use Rattle.fr_script.specs.declared.turn.LineKind.{LineKind}
 use Rattle.fr_script.specs.declared.turn.LineKind.TheVariants as kind
 use Rattle.fr_script.specs.declared.said.Said.{Said}
 use Rattle.fr_script.specs.declared.said.Said.TheVariants as said
+use Rattle.fr_script.specs.Limits.{greatest_time}
 use Rattle.fr_script.specs.Reading.{reading}
 use Rattle.fr_script.specs.Lines.{Fields, cut, is_blank_line, fields}
 use Rattle.fr_script.specs.Past.{Past}
 use Rattle.fr_script.specs.Sources.{Named, named}
 use Rattle.fr_script.specs.Kinds.{Names, last_time, is_long, is_beyond, is_time, begins, is_full, is_wrong, stands, says_value, says_source, says_at, says_fields, says}
-use Rattle.fr_script.specs.Instants.{alone, joined, with_line, without_last, Taken, past_of, BadLine, Found, found_behind, found_all, found_rest, found_from, none_taken, found, whole_of, whole}
+use Rattle.fr_script.specs.Instants.{alone, with_entry, with_line, without_last, Taken, past_of, BadLine, Found, found_behind, found_all, found_rest, found_from, none_taken, found, whole_of, whole}
 use Rattle.fr_run.specs.Scripts.{ahead}
 
 -- no instant has a time above the greatest
 abbrev AllInRange : List Inputs → Type 0
 AllInRange [] = Unit {0}
-AllInRange (i ∷ is) = (i.time ≤ 9223372036854775807) × AllInRange is
+AllInRange (i ∷ is) = (i.time ≤ greatest_time) × AllInRange is
 
 -- a line that sets a value has a time in range
 abbrev SetsInRange : Said → Type 0
-SetsInRange (said.Sets time e) = time ≤ 9223372036854775807
+SetsInRange (said.Sets time e) = time ≤ greatest_time
 SetsInRange other = Unit {0}
 
 -- what a test for a kind leaves
@@ -35,14 +36,14 @@ unless_kind : (b : Bool) (k : LineKind) (s : Said) → (b ≡ false → SetsInRa
 unless_kind true k s h = tt
 unless_kind false k s h = h refl
 
-right_time : (time : ℕ) (b : Bool) → not (is_time time && b) ≡ false → time ≤ 9223372036854775807
+right_time : (time : ℕ) (b : Bool) → not (is_time time && b) ≡ false → time ≤ greatest_time
 right_time time b h = grind (arith, nat_tests)
 
-value_in_range : (time : ℕ) (s : SrcId) (o : Option Datum) → time ≤ 9223372036854775807 → SetsInRange (says_value time s o)
+value_in_range : (time : ℕ) (s : SrcId) (o : Option Datum) → time ≤ greatest_time → SetsInRange (says_value time s o)
 value_in_range time s None h = tt
 value_in_range time s (Some d) h = h
 
-source_in_range : (p : Past) (time : ℕ) (rest : List ℕ) (o : Option Source) → time ≤ 9223372036854775807 → SetsInRange (says_source p time rest o)
+source_in_range : (p : Past) (time : ℕ) (rest : List ℕ) (o : Option Source) → time ≤ greatest_time → SetsInRange (says_source p time rest o)
 source_in_range p time rest None h = tt
 source_in_range p time rest (Some s) h = unless_kind (stands p.last time s.source) kind.Twice (says_value time s.source (reading rest)) (λ _. value_in_range time s.source (reading rest) h)
 
@@ -67,12 +68,12 @@ line_in_range names p line n =
     blank true = tt
     blank false = fields_in_range names p (fields line)
 
-begun_in_range : (b : Bool) (i : Inputs) (time : ℕ) (e : Entry) → i.time ≤ 9223372036854775807 → time ≤ 9223372036854775807
-    → AllInRange (if b then i ∷ alone time e ∷ [] else joined i e ∷ [])
+begun_in_range : (b : Bool) (i : Inputs) (time : ℕ) (e : Entry) → i.time ≤ greatest_time → time ≤ greatest_time
+    → AllInRange (if b then i ∷ alone time e ∷ [] else with_entry i e ∷ [])
 begun_in_range true i time e h k = (h, (k, tt))
 begun_in_range false i time e h k = (h, tt)
 
-with_in_range : (is : List Inputs) (time : ℕ) (e : Entry) → AllInRange is → time ≤ 9223372036854775807 → AllInRange (with_line is time e)
+with_in_range : (is : List Inputs) (time : ℕ) (e : Entry) → AllInRange is → time ≤ greatest_time → AllInRange (with_line is time e)
 with_in_range [] time e h k = (k, tt)
 with_in_range (i ∷ []) time e h k = begun_in_range (begins (Some i) time) i time e h.0 k
 with_in_range (i ∷ j ∷ is) time e h k = (h.0, with_in_range (j ∷ is) time e h.1 k)
@@ -129,5 +130,5 @@ times_in_range ss bytes ended =
     whole_in_range ended (found ss bytes ended).bad (found ss bytes ended).instants (from_in_range (named ss) (cut bytes).0 (cut bytes).1 ended none_taken tt)
 
 -- so the next of a script's instants has
-pub next_in_range : (ss : List Named) (script : List ℕ) (given : ℕ) (i : Inputs) (is : List Inputs) → ahead ss script given ≡ i ∷ is → i.time ≤ 9223372036854775807
+pub next_in_range : (ss : List Named) (script : List ℕ) (given : ℕ) (i : Inputs) (is : List Inputs) → ahead ss script given ≡ i ∷ is → i.time ≤ greatest_time
 next_in_range ss script given i is h = (subst AllInRange h (drop_in_range given (whole ss script true) (times_in_range ss script true))).0

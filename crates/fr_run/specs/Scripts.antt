@@ -2,20 +2,13 @@
 use Rattle.std.specs.Prelude.{ℕ, ◌+◌, ◌<◌, ◌≡◌, true, false, List, [], ◌∷◌, ◌++◌, length, drop, take, Option, Some, None}
 use Rattle.fr_core.specs.declared.inputs.Inputs.{Inputs}
 use Rattle.fr_script.specs.declared.reader.ScriptReader.{ScriptReader}
+use Rattle.fr_script.specs.Limits.{script_limit}
 use Rattle.fr_script.specs.Sources.{Named}
 use Rattle.fr_script.specs.Instants.{whole, bad_line}
 use Rattle.fr_script.specs.Stands.{Stands, MayFollow, is_told}
 use Rattle.fr_show.specs.declared.stop.Stop.{Stop}
 use Rattle.fr_show.specs.declared.stop.Stop.TheVariants as stop
 use Rattle.fr_show.specs.Output.{script_end}
-
--- the most bytes of a script
-abbrev pub script_limit : ℕ
-script_limit = 1099511627776
-
--- the greatest time of an instant, which is the greatest integer of the language
-abbrev pub greatest_time : ℕ
-greatest_time = 9223372036854775807
 
 -- as much of a script's file as is read: its first bytes, up to one more than a script may have
 abbrev pub script_front : List ℕ → List ℕ

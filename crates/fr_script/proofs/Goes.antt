@@ -11,7 +11,8 @@ use Rattle.fr_script.specs.declared.turn.Turn.{Turn}
 use Rattle.fr_script.specs.declared.turn.Turn.TheVariants as turn
 use Rattle.fr_script.specs.declared.said.Said.{Said}
 use Rattle.fr_script.specs.declared.said.Said.TheVariants as said
-use Rattle.fr_script.specs.declared.reader.ScriptReader.{ScriptReader}
+use Rattle.fr_script.specs.declared.line_reader.LineReader.{LineReader}
+use Rattle.fr_script.specs.Limits.{script_limit, line_limit}
 use Rattle.fr_script.specs.Lines.{line_end, cut}
 use Rattle.fr_script.specs.Past.{Past}
 use Rattle.fr_script.specs.Kinds.{Names, is_long, is_beyond, says}
@@ -26,11 +27,11 @@ use Rattle.fr_script.proofs.LineEnds.{behind, end_within}
 use Rattle.fr_script.proofs.Cuts.{cut_line, cut_rest}
 
 -- what is ahead where no bad line was met, and where one was
-good_ahead : (r : ScriptReader) (more : List ℕ) (ended : Bool) → r.bad ≡ None → ahead_of r more ended ≡ ahead (get_by_text r.names) r.past (r.rest ++ more) ended
+good_ahead : (r : LineReader) (more : List ℕ) (ended : Bool) → r.bad ≡ None → ahead_of r more ended ≡ ahead (get_by_text r.names) r.past (r.rest ++ more) ended
 unfolding ahead_of
 good_ahead r more ended h = ap (λ b. unless_bad b (ahead (get_by_text r.names) r.past (r.rest ++ more) ended)) h
 
-bad_now : (r : ScriptReader) (b : BadLine) (more : List ℕ) (ended : Bool) → r.bad ≡ Some b → ahead_of r more ended ≡ only_bad b
+bad_now : (r : LineReader) (b : BadLine) (more : List ℕ) (ended : Bool) → r.bad ≡ Some b → ahead_of r more ended ≡ only_bad b
 unfolding ahead_of
 bad_now r b more ended h = ap (λ x. unless_bad x (ahead (get_by_text r.names) r.past (r.rest ++ more) ended)) h
 
@@ -66,14 +67,14 @@ last_rest names p (b ∷ bs) h =
     ∙ ap (λ x. ahead_behind (says names p (b ∷ bs) (length (b ∷ bs))) p (length (b ∷ bs)) (λ q. ahead names q (x ++ []) true)) (sym (drop_all (b ∷ bs)))
 
 -- one step over a line
-line_steps : (s : Said) (r : ScriptReader) (n : ℕ) → r.bad ≡ None → 0 < n → n ≤ length r.rest
+line_steps : (s : Said) (r : LineReader) (n : ℕ) → r.bad ≡ None → 0 < n → n ≤ length r.rest
     → ((more : List ℕ) (ended : Bool) → MayFollow (is_told r) more ended → ahead_of r more ended ≡ ahead_behind s r.past n (λ q. ahead (get_by_text r.names) q (drop n r.rest ++ more) ended))
     → Steps (turn_of s r.past) r (behind_line s r n)
 line_steps said.Blank r n h k l e =
     (record { told = refl; same = λ more ended f. e more ended f ∙ sym (good_ahead (behind_line said.Blank r n) more ended h) }, omega (arith, length-drop n r.rest))
 line_steps (said.Sets time v) r n h k l e = by_closed (closed_by r.past.last time) e
   where
-    new : ScriptReader
+    new : LineReader
     new = behind_line (said.Sets time v) r n
 
     by_closed : (c : Option Inputs) → ((more : List ℕ) (ended : Bool) → MayFollow (is_told r) more ended → ahead_of r more ended ≡ before c (ahead (get_by_text r.names) (passed (set_in r.past time v) n) (drop n r.rest ++ more) ended))
@@ -83,7 +84,7 @@ line_steps (said.Sets time v) r n h k l e = by_closed (closed_by r.past.last tim
 line_steps (said.Bad k) r n h z l e =
     (record { told = refl; same = λ more ended f. e more ended f ∙ sym (bad_now (behind_line (said.Bad k) r n) (r.past.lines + 1, k) more ended refl) }, e)
 
-pub full_steps : (r new : ScriptReader) (n : ℕ) (t : Option Turn) → r.bad ≡ None → line_end r.rest ≡ Some n → n < length r.rest
+pub full_steps : (r new : LineReader) (n : ℕ) (t : Option Turn) → r.bad ≡ None → line_end r.rest ≡ Some n → n < length r.rest
     → t ≡ turn_of (says (get_by_text r.names) r.past (take n r.rest) (n + 1)) r.past → new ≡ behind_line (says (get_by_text r.names) r.past (take n r.rest) (n + 1)) r (n + 1) → Steps t r new
 full_steps r new n t h k l e f =
     let s = says (get_by_text r.names) r.past (take n r.rest) (n + 1) in
@@ -95,7 +96,7 @@ at_end : (P : List ℕ → Bool → Type 0) (told : Bool) → told ≡ true → 
 at_end P true e p more ended f = subst (λ m. P m ended) (sym f.0) (subst (λ b. P [] b) (sym f.1) p)
 at_end P false e p more ended f = cc
 
-last_steps : (r : ScriptReader) → is_told r ≡ true → r.bad ≡ None → line_end r.rest ≡ None → length r.rest ≢ 0
+last_steps : (r : LineReader) → is_told r ≡ true → r.bad ≡ None → line_end r.rest ≡ None → length r.rest ≢ 0
     → Steps (turn_of (says (get_by_text r.names) r.past r.rest (length r.rest)) r.past) r (behind_line (says (get_by_text r.names) r.past r.rest (length r.rest)) r (length r.rest))
 last_steps r t h k some =
     let s = says (get_by_text r.names) r.past r.rest (length r.rest) in
@@ -103,7 +104,7 @@ last_steps r t h k some =
     (at_end (λ more ended. ahead_of r more ended ≡ ahead_behind s r.past (length r.rest) (λ q. ahead (get_by_text r.names) q (drop (length r.rest) r.rest ++ more) ended)) (is_told r) t
     (good_ahead r [] true h ∙ rest_only (get_by_text r.names) r.past r.rest true k ∙ last_rest (get_by_text r.names) r.past r.rest some))
 
-pub finish_steps : (r new : ScriptReader) (n : ℕ) (t : Option Turn) → is_told r ≡ true → r.bad ≡ None → line_end r.rest ≡ None → n ≡ length r.rest → 0 < n
+pub finish_steps : (r new : LineReader) (n : ℕ) (t : Option Turn) → is_told r ≡ true → r.bad ≡ None → line_end r.rest ≡ None → n ≡ length r.rest → 0 < n
     → t ≡ turn_of (says (get_by_text r.names) r.past (take n r.rest) n) r.past → new ≡ behind_line (says (get_by_text r.names) r.past (take n r.rest) n) r n → Steps t r new
 finish_steps r new n t told h k same some e f =
     let whole_line : take n r.rest ≡ r.rest = take_all n r.rest (omega (arith, same)) in
@@ -117,10 +118,10 @@ empty [] h = refl
 empty (x ∷ xs) h = absurd (omega (arith, h))
 
 -- at the end with nothing left, the last instant is ahead
-at_last : (r : ScriptReader) → r.bad ≡ None → length r.rest ≡ 0 → ahead_of r [] true ≡ ahead_end r.past
+at_last : (r : LineReader) → r.bad ≡ None → length r.rest ≡ 0 → ahead_of r [] true ≡ ahead_end r.past
 at_last r h k = good_ahead r [] true h ∙ ap (λ x. ahead (get_by_text r.names) r.past (x ++ []) true) (empty r.rest k) ∙ nothing_left (get_by_text r.names) r.past
 
-pub take_steps : (r : ScriptReader) (i : Inputs) (new : ScriptReader) → is_told r ≡ true → r.bad ≡ None → length r.rest ≡ 0 → r.past.last ≡ Some i
+pub take_steps : (r : LineReader) (i : Inputs) (new : LineReader) → is_told r ≡ true → r.bad ≡ None → length r.rest ≡ 0 → r.past.last ≡ Some i
     → new ≡ record r { past = record r.past { last = None } } → Onward r (Some i) new
 take_steps r i new told h k l e = record {
   told = ap (λ x. is_told x) e;
@@ -129,31 +130,25 @@ take_steps r i new told h k l e = record {
       ∙ ap (before (Some i)) (sym (ap (λ x. ahead_of x [] true) e ∙ at_last (record r { past = record r.past { last = None } }) h k)));
 }
 
-pub end_goes : (r new : ScriptReader) → is_told r ≡ true → r.bad ≡ None → length r.rest ≡ 0 → r.past.last ≡ None → new ≡ r → TurnGoes turn.End r new
+pub end_goes : (r new : LineReader) → is_told r ≡ true → r.bad ≡ None → length r.rest ≡ 0 → r.past.last ≡ None → new ≡ r → TurnGoes turn.End r new
 end_goes r new told h k l e =
     (record { told = ap (λ x. is_told x) e; same = λ more ended f. ap (λ x. ahead_of x more ended) (sym e) }, told, at_last r h k ∙ ap (λ x. record { instants = option_to_list x; bad = None }) l)
 
-same_goes : (r new : ScriptReader) → new ≡ r → Onward r None new
+same_goes : (r new : LineReader) → new ≡ r → Onward r None new
 same_goes r new e = record { told = ap (λ x. is_told x) e; same = λ more ended f. ap (λ x. ahead_of x more ended) (sym e) }
 
-pub again_goes : (r new : ScriptReader) (line : ℕ) (k : LineKind) → r.bad ≡ Some (line, k) → new ≡ r → TurnGoes (turn.Refused line k) r new
+pub again_goes : (r new : LineReader) (line : ℕ) (k : LineKind) → r.bad ≡ Some (line, k) → new ≡ r → TurnGoes (turn.Refused line k) r new
 again_goes r new line k h e = (same_goes r new e, λ more ended f. bad_now r (line, k) more ended h)
 
 -- a reader whose bytes that are left are told in another way
-abbrev pub with_rest : ScriptReader → List ℕ → ScriptReader
+abbrev pub with_rest : LineReader → List ℕ → LineReader
 with_rest r rest = record { alloc = r.alloc; names = r.names; past = r.past; rest = rest; ended = r.ended; bad = r.bad }
 
-pub full_steps_at : (r : ScriptReader) (rest : List ℕ) (new : ScriptReader) (n : ℕ) (t : Option Turn) → rest ≡ r.rest → r.bad ≡ None → line_end r.rest ≡ Some n → n < length r.rest
+pub full_steps_at : (r : LineReader) (rest : List ℕ) (new : LineReader) (n : ℕ) (t : Option Turn) → rest ≡ r.rest → r.bad ≡ None → line_end r.rest ≡ Some n → n < length r.rest
     → t ≡ turn_of (says (get_by_text r.names) r.past (take n rest) (n + 1)) r.past → new ≡ behind_line (says (get_by_text r.names) r.past (take n rest) (n + 1)) (with_rest r rest) (n + 1) → Steps t r new
 full_steps_at r rest new n t same h k l e f =
     full_steps r new n t h k l (e ∙ ap (λ x. turn_of (says (get_by_text r.names) r.past (take n x) (n + 1)) r.past) same)
     (f ∙ ap (λ x. behind_line (says (get_by_text r.names) r.past (take n x) (n + 1)) (with_rest r x) (n + 1)) same)
-
-pub steps_from : (r : ScriptReader) (rest : List ℕ) (t : Option Turn) (new : ScriptReader) → rest ≡ r.rest → Steps t (with_rest r rest) new → Steps t r new
-steps_from r rest t new same h = subst (λ x. Steps t (with_rest r x) new) same h
-
-pub goes_from : (r : ScriptReader) (rest : List ℕ) (t : Turn) (new : ScriptReader) → rest ≡ r.rest → TurnGoes t (with_rest r rest) new → TurnGoes t r new
-goes_from r rest t new same h = subst (λ x. TurnGoes t (with_rest r x) new) same h
 
 -- a newline in what follows is behind all that is left
 end_append : (xs ys : List ℕ) → line_end xs ≡ None → line_end (xs ++ ys) ≡ option_map (λ n. length xs + n) (line_end ys)
@@ -197,9 +192,9 @@ still_beyond b n m h k = grind (arith, nat_tests)
 -- what is beyond the limit makes no line longer
 still_short : (b : ℕ) (rest line : List ℕ) → length rest ≤ length line → is_long b rest ≡ false → is_beyond b (length rest) ≡ true → is_long b line ≡ false
 still_short b rest line h k l =
-    let far : 1099511627776 < b + length rest = grind (arith, nat_tests) in
-    let same : min (length line) (1099511627776 - b) ≡ min (length rest) (1099511627776 - b) = omega arith in
-    ap (nat_lt 65536) same ∙ k
+    let far : script_limit < b + length rest = grind (arith, nat_tests) in
+    let same : min (length line) (script_limit - b) ≡ min (length rest) (script_limit - b) = omega arith in
+    ap (nat_lt line_limit) same ∙ k
 
 long_says : (names : Names) (p : Past) (line : List ℕ) (n : ℕ) → is_long p.bytes line ≡ true → says names p line n ≡ said.Bad kind.Long
 unfolding says
@@ -222,7 +217,7 @@ short_waits names p [] k l = refl
 short_waits names p (b ∷ bs) k l = rw (k, l) refl
 
 -- a turn by which a bad line is refused
-refused_goes : (r new : ScriptReader) (t : Turn) (k : LineKind) → r.bad ≡ None → t ≡ turn.Refused (r.past.lines + 1) k → new ≡ record r { bad = Some (r.past.lines + 1, k) }
+refused_goes : (r new : LineReader) (t : Turn) (k : LineKind) → r.bad ≡ None → t ≡ turn.Refused (r.past.lines + 1) k → new ≡ record r { bad = Some (r.past.lines + 1, k) }
     → ((more : List ℕ) (ended : Bool) → ahead (get_by_text r.names) r.past (r.rest ++ more) ended ≡ only_bad (r.past.lines + 1, k)) → TurnGoes t r new
 refused_goes r new t k h e f a =
     subst (λ x. TurnGoes x r new) (sym e) (subst (λ x. TurnGoes (turn.Refused (r.past.lines + 1) k) r x) (sym f) (
@@ -233,7 +228,7 @@ refused_goes r new t k h e f a =
       λ more ended g. good_ahead r more ended h ∙ a more ended,
     ))
 
-pub long_goes : (r new : ScriptReader) (t : Turn) (n : ℕ) → r.bad ≡ None → line_end r.rest ≡ None → n ≡ length r.rest → n ≢ 0 → is_long r.past.bytes (take n r.rest) ≡ true
+pub long_goes : (r new : LineReader) (t : Turn) (n : ℕ) → r.bad ≡ None → line_end r.rest ≡ None → n ≡ length r.rest → n ≢ 0 → is_long r.past.bytes (take n r.rest) ≡ true
     → t ≡ turn.Refused (r.past.lines + 1) kind.Long → new ≡ record r { bad = Some (r.past.lines + 1, kind.Long) } → TurnGoes t r new
 long_goes r new t n h k same some l e f =
     let whole_line : take n r.rest ≡ r.rest = take_all n r.rest (omega (arith, same)) in
@@ -244,7 +239,7 @@ long_goes r new t n h k same some l e f =
     (λ line m i j. long_says names r.past line m (still_long r.past.bytes r.rest line i long))
     (λ line i j. long_waits names r.past line (omega (arith, i, j)) (still_long r.past.bytes r.rest line i long)))
 
-pub many_goes : (r new : ScriptReader) (t : Turn) (n : ℕ) → r.bad ≡ None → line_end r.rest ≡ None → n ≡ length r.rest → n ≢ 0 → is_long r.past.bytes (take n r.rest) ≡ false → is_beyond r.past.bytes n ≡ true
+pub many_goes : (r new : LineReader) (t : Turn) (n : ℕ) → r.bad ≡ None → line_end r.rest ≡ None → n ≡ length r.rest → n ≢ 0 → is_long r.past.bytes (take n r.rest) ≡ false → is_beyond r.past.bytes n ≡ true
     → t ≡ turn.Refused (r.past.lines + 1) kind.Many → new ≡ record r { bad = Some (r.past.lines + 1, kind.Many) } → TurnGoes t r new
 many_goes r new t n h k same some l m e f =
     let whole_line : take n r.rest ≡ r.rest = take_all n r.rest (omega (arith, same)) in
@@ -256,7 +251,7 @@ many_goes r new t n h k same some l m e f =
     (λ line m i j. many_says names r.past line m (still_short r.past.bytes r.rest line i short beyond) (still_beyond r.past.bytes (length r.rest) m (omega (arith, i, j)) beyond))
     (λ line i j. many_waits names r.past line (omega (arith, i, j)) (still_short r.past.bytes r.rest line i short beyond) (still_beyond r.past.bytes (length r.rest) (length line) i beyond)))
 
-pub more_goes : (r new : ScriptReader) (n : ℕ) → is_told r ≡ false → r.bad ≡ None → line_end r.rest ≡ None → n ≡ length r.rest → is_long r.past.bytes (take n r.rest) ≡ false → is_beyond r.past.bytes n ≡ false
+pub more_goes : (r new : LineReader) (n : ℕ) → is_told r ≡ false → r.bad ≡ None → line_end r.rest ≡ None → n ≡ length r.rest → is_long r.past.bytes (take n r.rest) ≡ false → is_beyond r.past.bytes n ≡ false
     → new ≡ r → TurnGoes turn.More r new
 more_goes r new n told h k same l m e =
     let whole_line : take n r.rest ≡ r.rest = take_all n r.rest (omega (arith, same)) in (
@@ -266,14 +261,14 @@ more_goes r new n told h k same l m e =
           ∙ short_waits (get_by_text r.names) r.past r.rest (subst (λ x. is_long r.past.bytes x ≡ false) whole_line l) (subst (λ x. is_beyond r.past.bytes x ≡ false) same m),
     )
 
-pub empty_goes : (r new : ScriptReader) → is_told r ≡ false → r.bad ≡ None → length r.rest ≡ 0 → new ≡ r → TurnGoes turn.More r new
+pub empty_goes : (r new : LineReader) → is_told r ≡ false → r.bad ≡ None → length r.rest ≡ 0 → new ≡ r → TurnGoes turn.More r new
 empty_goes r new told h k e = (
   same_goes r new e,
   told,
   good_ahead r [] false h ∙ ap (λ x. ahead (get_by_text r.names) r.past (x ++ []) false) (empty r.rest k) ∙ rest_only (get_by_text r.names) r.past [] false refl,
 )
 
-abbrev pub with_past : ScriptReader → Past → ScriptReader
+abbrev pub with_past : LineReader → Past → LineReader
 with_past r past = record { alloc = r.alloc; names = r.names; past = past; rest = r.rest; ended = r.ended; bad = r.bad }
 
 pub without_last : (p : Past) → p.last ≡ None → record p { last = None } ≡ p

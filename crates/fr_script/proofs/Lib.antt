@@ -8,5 +8,6 @@ mod Tells
 mod Wholes
 mod Goes
 mod Turns
+mod Settles
 pub mod Limits
 mod Examples

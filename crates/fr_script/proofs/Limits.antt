@@ -6,6 +6,7 @@ use Rattle.fr_core.specs.declared.inputs.Inputs.{Inputs}
 use Rattle.fr_script.specs.declared.turn.LineKind.TheVariants as kind
 use Rattle.fr_script.specs.declared.said.Said.{Said}
 use Rattle.fr_script.specs.declared.said.Said.TheVariants as said
+use Rattle.fr_script.specs.Limits.{script_limit}
 use Rattle.fr_script.specs.Lines.{Cut, byte_before, cut_at, cut}
 use Rattle.fr_script.specs.Sources.{Named, named}
 use Rattle.fr_script.specs.Kinds.{Names, is_long, is_beyond, says}
@@ -36,9 +37,9 @@ cut_size (b ∷ bs) = omega (arith, at_size (b == 10) b (cut bs), cut_size bs)
 
 -- what is behind lines of so many bytes is within the limit, where it holds no bad line
 abbrev Fits : (Taken → Found) → ℕ → Type 0
-Fits next more = (t : Taken) → (next t).bad ≡ None → t.bytes ≤ 1099511627776 → t.bytes + more ≤ 1099511627776
+Fits next more = (t : Taken) → (next t).bad ≡ None → t.bytes ≤ script_limit → t.bytes + more ≤ script_limit
 
-behind_fits : (s : Said) (t : Taken) (n more : ℕ) (next : Taken → Found) → Fits next more → (IsGood s → t.bytes + n ≤ 1099511627776) → (found_behind s t n next).bad ≡ None → t.bytes + (n + more) ≤ 1099511627776
+behind_fits : (s : Said) (t : Taken) (n more : ℕ) (next : Taken → Found) → Fits next more → (IsGood s → t.bytes + n ≤ script_limit) → (found_behind s t n next).bad ≡ None → t.bytes + (n + more) ≤ script_limit
 behind_fits said.Blank t n more next f g h = let k = f (record { lines = t.lines + 1; bytes = t.bytes + n; instants = t.instants }) h (g tt) in omega arith
 behind_fits (said.Sets time e) t n more next f g h = let k = f _ h (g tt) in omega arith
 behind_fits (said.Bad k) t n more next f g h = absurd (none-some (t.lines + 1, k) (sym h))
@@ -46,7 +47,7 @@ behind_fits (said.Bad k) t n more next f g h = absurd (none-some (t.lines + 1, k
 all_fits : Fits found_all 0
 all_fits t h k = omega arith
 
-within : (b n : ℕ) → is_beyond b n ≡ false → b + n ≤ 1099511627776
+within : (b n : ℕ) → is_beyond b n ≡ false → b + n ≤ script_limit
 within b n h = grind (arith, nat_tests)
 
 -- bytes that may still become a line are within the limit
@@ -73,6 +74,6 @@ from_fits names (l ∷ ls) rest ended t h k =
     let f = behind_fits (says names (past_of t) l n) t n (lines_size ls + length rest) (λ u. found_from names u ls rest ended) (from_fits names ls rest ended) (good_fits names (past_of t) l n) h in
     omega arith
 
-pub good_is_short : (ss : List Named) (bytes : List ℕ) (ended : Bool) → bad_line ss bytes ended ≡ None → length bytes ≤ 1099511627776
+pub good_is_short : (ss : List Named) (bytes : List ℕ) (ended : Bool) → bad_line ss bytes ended ≡ None → length bytes ≤ script_limit
 unfolding bad_line
 good_is_short ss bytes ended h = omega (arith, cut_size bytes, from_fits (named ss) (cut bytes).0 (cut bytes).1 ended none_taken h (omega arith))

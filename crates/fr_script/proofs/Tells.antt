@@ -13,6 +13,7 @@ use Rattle.fr_script.specs.declared.turn.LineKind.{LineKind}
 use Rattle.fr_script.specs.declared.turn.LineKind.TheVariants as kind
 use Rattle.fr_script.specs.declared.said.Said.{Said}
 use Rattle.fr_script.specs.declared.said.Said.TheVariants as said
+use Rattle.fr_script.specs.Limits.{script_limit, instant_limit}
 use Rattle.fr_script.specs.Reading.{reading}
 use Rattle.fr_script.specs.Lines.{Fields, is_blank_line, fields}
 use Rattle.fr_script.specs.Past.{Past}
@@ -32,14 +33,14 @@ passes true k s x g h = absurd (subst IsGood (sym h) g)
 passes false k s x g h = (refl, h)
 
 -- a good line is within the script's limit
-pub good_fits : (names : Names) (p : Past) (line : List ℕ) (n : ℕ) → IsGood (says names p line n) → p.bytes + n ≤ 1099511627776
+pub good_fits : (names : Names) (p : Past) (line : List ℕ) (n : ℕ) → IsGood (says names p line n) → p.bytes + n ≤ script_limit
 unfolding says
 good_fits names p line n g =
     let a = passes (is_long p.bytes line) kind.Long (if is_beyond p.bytes n then said.Bad kind.Many else (if is_blank_line line then said.Blank else says_fields names p (fields line))) (says names p line n) g refl in
     let b = passes (is_beyond p.bytes n) kind.Many (if is_blank_line line then said.Blank else says_fields names p (fields line)) (says names p line n) g a.1 in
     not_beyond p.bytes n b.0
   where
-    not_beyond : (b m : ℕ) → is_beyond b m ≡ false → b + m ≤ 1099511627776
+    not_beyond : (b m : ℕ) → is_beyond b m ≡ false → b + m ≤ script_limit
     not_beyond b m h = grind (arith, nat_tests)
 
 time_of : ℕ → Said → ℕ
@@ -64,8 +65,8 @@ source_tells p t time rest (Some s) e h =
     let b = value_tells t time s.source (reading rest) e a.1 in
     (b.0, subst₂ (λ x y. stands p.last x y ≡ false) b.0 b.1 a.0)
 
-not_full : (t c : ℕ) (b : Bool) → (is_time t && (b && nat_le 4294967295 c)) ≡ false → is_time t ≡ true → b ≡ true → c < 4294967295
-not_full t c b h i j = let k : nat_le 4294967295 c ≡ false = rw (i, j) at h in grind (arith, nat_tests)
+not_full : (t c : ℕ) (b : Bool) → (is_time t && (b && nat_le instant_limit c)) ≡ false → is_time t ≡ true → b ≡ true → c < instant_limit
+not_full t c b h i j = let k : nat_le instant_limit c ≡ false = rw (i, j) at h in grind (arith, nat_tests)
 
 not_wrong : (a b : Bool) → not (a && b) ≡ false → (a ≡ true) × (b ≡ true)
 not_wrong true true h = (refl, refl)

@@ -6,7 +6,7 @@ use Rattle.indexmap.specs.IndexMap.{get_by_text}
 use Rattle.fr_core.specs.declared.inputs.Inputs.{Inputs}
 use Rattle.fr_script.specs.declared.turn.Turn.{Turn}
 use Rattle.fr_script.specs.declared.turn.Turn.TheVariants as turn
-use Rattle.fr_script.specs.declared.reader.ScriptReader.{ScriptReader}
+use Rattle.fr_script.specs.declared.line_reader.LineReader.{LineReader}
 use Rattle.fr_script.specs.Sources.{Named, named}
 use Rattle.fr_script.specs.Instants.{BadLine, Found, whole, bad_line}
 use Rattle.fr_script.specs.Ahead.{none_before, nothing, ahead}
@@ -19,7 +19,7 @@ none_follows : (told : Bool) → MayFollow told [] told
 none_follows true = (refl, refl)
 none_follows false = tt
 
-told_same : (a b : Bool) (more : List ℕ) (ended : Bool) → a ≡ b → MayFollow a more ended → MayFollow b more ended
+pub told_same : (a b : Bool) (more : List ℕ) (ended : Bool) → a ≡ b → MayFollow a more ended → MayFollow b more ended
 told_same a b more ended h f = subst (λ x. MayFollow x more ended) h f
 
 get_seam : (xs ys : List Inputs) (i : Inputs) → slice_get (xs ++ i ∷ ys) (length xs) ≡ Some i
@@ -36,7 +36,7 @@ next_get : (xs ys : List Inputs) (i : Inputs) (given : ℕ) (is : List Inputs) �
 next_get xs ys i given is h k = ap (λ x. slice_get x given) h ∙ ap (slice_get (xs ++ i ∷ ys)) (sym k) ∙ get_seam xs ys i
 
 -- the reader behind a step without an instant stands where it stood
-onward_stands : (old new : ScriptReader) → Onward old None new → (ss : List Named) (fed : List ℕ) (given : ℕ) → Stands old ss fed given → Stands new ss fed given
+onward_stands : (old new : LineReader) → Onward old None new → (ss : List Named) (fed : List ℕ) (given : ℕ) → Stands old ss fed given → Stands new ss fed given
 onward_stands old new h ss fed given s = record {
   instants = s.instants;
   given_is = s.given_is;
@@ -47,7 +47,7 @@ onward_stands old new h ss fed given s = record {
 }
 
 -- the reader behind a step with an instant has given it
-instant_stands : (old new : ScriptReader) (i : Inputs) → Onward old (Some i) new → (ss : List Named) (fed : List ℕ) (given : ℕ) → Stands old ss fed given → Stands new ss fed (given + 1)
+instant_stands : (old new : LineReader) (i : Inputs) → Onward old (Some i) new → (ss : List Named) (fed : List ℕ) (given : ℕ) → Stands old ss fed given → Stands new ss fed (given + 1)
 instant_stands old new i h ss fed given s = record {
   instants = s.instants ++ i ∷ [];
   given_is = length-append s.instants (i ∷ []) ∙ ap (λ n. n + 1) s.given_is;
@@ -60,7 +60,7 @@ instant_stands old new i h ss fed given s = record {
       };
 }
 
-instant_next : (old new : ScriptReader) (i : Inputs) → Onward old (Some i) new → (ss : List Named) (fed : List ℕ) (given : ℕ) → Stands old ss fed given → IsNext i ss fed (is_told old) given
+instant_next : (old new : LineReader) (i : Inputs) → Onward old (Some i) new → (ss : List Named) (fed : List ℕ) (given : ℕ) → Stands old ss fed given → IsNext i ss fed (is_told old) given
 instant_next old new i h ss fed given s =
     let told = is_told old in
     let f = none_follows told in
@@ -74,7 +74,7 @@ instant_next old new i h ss fed given s =
 given_all : (xs : List Inputs) (given : ℕ) (is : List Inputs) → is ≡ xs ++ [] → length xs ≡ given → length is ≡ given
 given_all xs given is h k = ap length (h ∙ append_nil xs) ∙ k
 
-nothing_ahead : (old : ScriptReader) (told : Bool) → is_told old ≡ told → ahead_of old [] told ≡ nothing → (ss : List Named) (fed : List ℕ) (given : ℕ) → Stands old ss fed given → IsAll ss fed (is_told old) given
+nothing_ahead : (old : LineReader) (told : Bool) → is_told old ≡ told → ahead_of old [] told ≡ nothing → (ss : List Named) (fed : List ℕ) (given : ℕ) → Stands old ss fed given → IsAll ss fed (is_told old) given
 nothing_ahead old told e h ss fed given s =
     let f = none_follows (is_told old) in
     let m = s.goes_on [] (is_told old) f in
@@ -84,7 +84,7 @@ nothing_ahead old told e h ss fed given s =
       good = ap (λ b. bad_line ss b (is_told old)) (sym (append_nil fed)) ∙ m.bad ∙ ap (λ x. x.bad) k;
     }
 
-bad_ahead_of : (old : ScriptReader) (b : BadLine) → ((more : List ℕ) (ended : Bool) → MayFollow (is_told old) more ended → ahead_of old more ended ≡ only_bad b)
+bad_ahead_of : (old : LineReader) (b : BadLine) → ((more : List ℕ) (ended : Bool) → MayFollow (is_told old) more ended → ahead_of old more ended ≡ only_bad b)
     → (ss : List Named) (fed : List ℕ) (given : ℕ) → Stands old ss fed given → IsBad b ss fed (is_told old) given
 bad_ahead_of old b h ss fed given s =
     let f = none_follows (is_told old) in
@@ -99,24 +99,24 @@ bad_ahead_of old b h ss fed given s =
     }
 
 -- what a turn says, and where the reader stands behind it
-pub turn_says : (t : Turn) (old new : ScriptReader) → TurnGoes t old new → (ss : List Named) (fed : List ℕ) (given : ℕ) → Stands old ss fed given
+pub turn_says : (t : Turn) (old new : LineReader) → TurnGoes t old new → (ss : List Named) (fed : List ℕ) (given : ℕ) → Stands old ss fed given
     → TurnSays t ss fed (is_told old) given × Stands new ss fed (given_after t given)
 turn_says (turn.Instant i) old new h ss fed given s = (instant_next old new i h ss fed given s, instant_stands old new i h ss fed given s)
 turn_says turn.More old new h ss fed given s = ((h.1, nothing_ahead old false h.1 h.2 ss fed given s), onward_stands old new h.0 ss fed given s)
 turn_says turn.End old new h ss fed given s = ((h.1, nothing_ahead old true h.1 h.2 ss fed given s), onward_stands old new h.0 ss fed given s)
 turn_says (turn.Refused line k) old new h ss fed given s = (bad_ahead_of old (line, k) h.1 ss fed given s, onward_stands old new h.0 ss fed given s)
 
-pub stands_on : (old new : ScriptReader) → Onward old None new → (ss : List Named) (fed : List ℕ) (given : ℕ) → Stands old ss fed given → Stands new ss fed given
+pub stands_on : (old new : LineReader) → Onward old None new → (ss : List Named) (fed : List ℕ) (given : ℕ) → Stands old ss fed given → Stands new ss fed given
 stands_on = onward_stands
 
 -- steps without an instant, one after the other
-pub onward_then : (a b c : ScriptReader) (i : Option Inputs) → Onward a None b → Onward b i c → Onward a i c
+pub onward_then : (a b c : LineReader) (i : Option Inputs) → Onward a None b → Onward b i c → Onward a i c
 onward_then a b c i h k = record {
   told = k.told ∙ h.told;
   same = λ more ended f. h.same more ended f ∙ k.same more ended (told_same (is_told a) (is_told b) more ended (sym h.told) f);
 }
 
-pub goes_then : (t : Turn) (a b c : ScriptReader) → Onward a None b → TurnGoes t b c → TurnGoes t a c
+pub goes_then : (t : Turn) (a b c : LineReader) → Onward a None b → TurnGoes t b c → TurnGoes t a c
 goes_then (turn.Instant i) a b c h k = onward_then a b c (Some i) h k
 goes_then turn.More a b c h k =
     let told = sym h.told ∙ k.1 in
@@ -127,13 +127,13 @@ goes_then turn.End a b c h k =
 goes_then (turn.Refused line x) a b c h k =
     (onward_then a b c None h k.0, λ more ended f. h.same more ended f ∙ k.1 more ended (told_same (is_told a) (is_told b) more ended (sym h.told) f))
 
-pub goes_told : (t : Turn) (old new : ScriptReader) → TurnGoes t old new → is_told new ≡ is_told old
+pub goes_told : (t : Turn) (old new : LineReader) → TurnGoes t old new → is_told new ≡ is_told old
 goes_told (turn.Instant i) old new h = h.told
 goes_told turn.More old new h = h.0.told
 goes_told turn.End old new h = h.0.told
 goes_told (turn.Refused line k) old new h = h.0.told
 
-pub here : (r : ScriptReader) → Onward r None r
+pub here : (r : LineReader) → Onward r None r
 here r = record { told = refl; same = λ more ended f. refl }
 
 may_still : (told : Bool) (more : List ℕ) (ended : Bool) → MayFollow true more ended → MayFollow told more ended
@@ -141,7 +141,7 @@ may_still true more ended f = f
 may_still false more ended f = tt
 
 -- a reader that is told the end
-pub told_stands : (r : ScriptReader) (ss : List Named) (fed : List ℕ) (given : ℕ) → Stands r ss fed given → Stands (record r { ended = true }) ss fed given
+pub told_stands : (r : LineReader) (ss : List Named) (fed : List ℕ) (given : ℕ) → Stands r ss fed given → Stands (record r { ended = true }) ss fed given
 unfolding ahead_of
 told_stands r ss fed given s = record {
   instants = s.instants;
@@ -150,7 +150,7 @@ told_stands r ss fed given s = record {
 }
 
 -- a reader that is fed a piece
-pub fed_stands : (r : ScriptReader) (rest piece : List ℕ) → is_told r ≡ false → rest ≡ r.rest ++ piece → (ss : List Named) (fed : List ℕ) (given : ℕ) → Stands r ss fed given → Stands (with_rest r rest) ss (fed ++ piece) given
+pub fed_stands : (r : LineReader) (rest piece : List ℕ) → is_told r ≡ false → rest ≡ r.rest ++ piece → (ss : List Named) (fed : List ℕ) (given : ℕ) → Stands r ss fed given → Stands (with_rest r rest) ss (fed ++ piece) given
 unfolding ahead_of
 fed_stands r rest piece told e ss fed given s = record {
   instants = s.instants;
@@ -166,7 +166,7 @@ fed_stands r rest piece told e ss fed given s = record {
 }
 
 -- a reader before the first byte
-pub new_stands : (r : ScriptReader) (ss : List Named) → ((q : List ℕ) → get_by_text r.names q ≡ named ss q) → r.past ≡ none_before → r.rest ≡ [] → r.bad ≡ None → Stands r ss [] 0
+pub new_stands : (r : LineReader) (ss : List Named) → ((q : List ℕ) → get_by_text r.names q ≡ named ss q) → r.past ≡ none_before → r.rest ≡ [] → r.bad ≡ None → Stands r ss [] 0
 unfolding ahead_of
 new_stands r ss names past rest bad = record {
   instants = [];
@@ -180,7 +180,7 @@ new_stands r ss names past rest bad = record {
 }
 
 -- a reader that met a bad line and is fed a piece
-pub bad_stands : (r : ScriptReader) (piece : List ℕ) → is_told r ≡ false → is_some r.bad ≡ true → (ss : List Named) (fed : List ℕ) (given : ℕ) → Stands r ss fed given → Stands r ss (fed ++ piece) given
+pub bad_stands : (r : LineReader) (piece : List ℕ) → is_told r ≡ false → is_some r.bad ≡ true → (ss : List Named) (fed : List ℕ) (given : ℕ) → Stands r ss fed given → Stands r ss (fed ++ piece) given
 unfolding ahead_of
 bad_stands r piece told b ss fed given s = record {
   instants = s.instants;

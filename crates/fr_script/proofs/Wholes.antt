@@ -12,7 +12,7 @@ use Rattle.fr_script.specs.Lines.{cut}
 use Rattle.fr_script.specs.Past.{Past}
 use Rattle.fr_script.specs.Sources.{Named, named}
 use Rattle.fr_script.specs.Kinds.{Names, begins, is_long, is_beyond, says}
-use Rattle.fr_script.specs.Instants.{alone, joined, with_line, last_of, without_last, Taken, past_of, BadLine, Found, found_behind, found_all, found_rest, found_from, none_taken, whole_of, whole, bad_line}
+use Rattle.fr_script.specs.Instants.{alone, with_entry, with_line, last_of, without_last, Taken, past_of, BadLine, Found, found_behind, found_all, found_rest, found_from, none_taken, whole_of, whole, bad_line}
 use Rattle.fr_script.specs.Ahead.{none_before, passed, joins, set_in, closed_by, before, ahead_behind, ahead_end, nothing, ahead_rest, ahead_from, ahead}
 
 -- lines taken, of which only the past is known, with the instants that they close
@@ -75,9 +75,9 @@ with_last closed is None time e h f = ap (λ x. with_line x time e) (h ∙ ap (�
 with_last closed is (Some i) time e h f =
     ap (λ x. with_line x time e) h ∙ with_snoc closed i time e ∙ by_test (nat_lt i.time time)
   where
-    by_test : (b : Bool) → closed ++ (if b then i ∷ alone time e ∷ [] else joined i e ∷ []) ≡ (closed ++ option_to_list (closes (Some i) b)) ++ after (Some i) b time e ∷ []
+    by_test : (b : Bool) → closed ++ (if b then i ∷ alone time e ∷ [] else with_entry i e ∷ []) ≡ (closed ++ option_to_list (closes (Some i) b)) ++ after (Some i) b time e ∷ []
     by_test true = sym (append_assoc closed (i ∷ []) (alone time e ∷ []))
-    by_test false = sym (list_nil closed (joined i e ∷ []))
+    by_test false = sym (list_nil closed (with_entry i e ∷ []))
 
 abbrev counted : Bool → ℕ → ℕ
 counted true c = c + 1

@@ -8,10 +8,11 @@ use Rattle.fr_core.specs.Sets.{value_in}
 use Rattle.fr_script.specs.declared.turn.LineKind.TheVariants as kind
 use Rattle.fr_script.specs.declared.said.Said.{Said}
 use Rattle.fr_script.specs.declared.said.Said.TheVariants as said
+use Rattle.fr_script.specs.Limits.{instant_limit}
 use Rattle.fr_script.specs.Lines.{cut}
 use Rattle.fr_script.specs.Past.{Past}
 use Rattle.fr_script.specs.Kinds.{Names, begins, is_long, is_beyond, says}
-use Rattle.fr_script.specs.Instants.{alone, joined, Found}
+use Rattle.fr_script.specs.Instants.{alone, with_entry, Found}
 
 -- before the first line
 abbrev pub none_before : Past
@@ -24,7 +25,7 @@ passed p n = record { lines = p.lines + 1; bytes = p.bytes + n; count = p.count;
 -- an instant with one more line of its time, where there is an instant
 abbrev pub joins : Option Inputs → ℕ → Entry → Inputs
 joins None time e = alone time e
-joins (Some i) time e = joined i e
+joins (Some i) time e = with_entry i e
 
 -- with a value set at a time, which begins a further instant or joins the last
 abbrev pub set_in : Past → ℕ → Entry → Past
@@ -36,6 +37,10 @@ set_in p time e =
 abbrev pub closed_by : Option Inputs → ℕ → Option Inputs
 closed_by last time = if begins last time then last else None
 
+-- setting a value at a time made this instant whole, and led from the one past to the other
+abbrev pub IsSetIn : Past → ℕ → Entry → Option Inputs → Past → Type 0
+IsSetIn old time e closed new = (closed ≡ closed_by old.last time) × (new ≡ set_in old time e)
+
 -- there is an instant, and it has no value for the source
 abbrev pub CanJoin : Option Inputs → SrcId → Type 0
 CanJoin None source = ⊥
@@ -43,7 +48,7 @@ CanJoin (Some i) source = value_in source i.sets ≡ None
 
 -- the limit of instants leaves room for the line, and no source is set twice at its time
 pub record MaySet (p : Past) (time : ℕ) (source : SrcId) : Type 0 where
-  pub room : begins p.last time ≡ true → p.count < 4294967295
+  pub room : begins p.last time ≡ true → p.count < instant_limit
   pub free : begins p.last time ≡ false → CanJoin p.last source
 
 -- an instant, if there is one, before what is ahead

@@ -17,13 +17,13 @@ abbrev pub alone : ℕ → Entry → Inputs
 alone time e = record { time = time; sets = e ∷ [] }
 
 -- an instant with one more line of its time
-abbrev pub joined : Inputs → Entry → Inputs
-joined i e = record { time = i.time; sets = placed e i.sets }
+abbrev pub with_entry : Inputs → Entry → Inputs
+with_entry i e = record { time = i.time; sets = placed e i.sets }
 
 -- the instants with one more line, which joins the last one or begins a further one
 abbrev pub with_line : List Inputs → ℕ → Entry → List Inputs
 with_line [] time e = alone time e ∷ []
-with_line (i ∷ []) time e = if begins (Some i) time then i ∷ alone time e ∷ [] else joined i e ∷ []
+with_line (i ∷ []) time e = if begins (Some i) time then i ∷ alone time e ∷ [] else with_entry i e ∷ []
 with_line (i ∷ j ∷ is) time e = i ∷ with_line (j ∷ is) time e
 
 abbrev pub last_of : List Inputs → Option Inputs

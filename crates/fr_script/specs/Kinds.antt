@@ -10,6 +10,7 @@ use Rattle.fr_script.specs.declared.turn.LineKind.TheVariants as kind
 use Rattle.fr_script.specs.declared.sources.Source.{Source}
 use Rattle.fr_script.specs.declared.said.Said.{Said}
 use Rattle.fr_script.specs.declared.said.Said.TheVariants as said
+use Rattle.fr_script.specs.Limits.{line_limit, script_limit, instant_limit, greatest_time}
 use Rattle.fr_script.specs.Reading.{reading}
 use Rattle.fr_script.specs.Lines.{Fields, is_blank_line, fields}
 use Rattle.fr_script.specs.Past.{Past}
@@ -18,31 +19,31 @@ use Rattle.fr_script.specs.Past.{Past}
 abbrev pub Names : Type 0
 Names = List ℕ → Option Source
 
--- more than 65,536 bytes of the line stand among the script's first 1,099,511,627,776 bytes
+-- more bytes than a line may have stand among those that a script may have, so many of which are before the line
 abbrev pub is_long : ℕ → List ℕ → Bool
-is_long before line = nat_lt 65536 (min (length line) (1099511627776 - before))
+is_long before line = nat_lt line_limit (min (length line) (script_limit - before))
 
--- behind so many bytes, so many more hold a byte after the script's first 1,099,511,627,776
+-- behind so many bytes, so many more are more than a script may have
 abbrev pub is_beyond : ℕ → ℕ → Bool
-is_beyond before more = nat_lt 1099511627776 (before + more)
+is_beyond before more = nat_lt script_limit (before + more)
 
 -- the time of the last instant, or 0 where there is none
 abbrev pub last_time : Option Inputs → ℕ
 last_time None = 0
 last_time (Some i) = i.time
 
--- 1 to 9,223,372,036,854,775,807
+-- 1 to the greatest time
 abbrev pub is_time : ℕ → Bool
-is_time time = nat_lt 0 time && nat_le time 9223372036854775807
+is_time time = nat_lt 0 time && nat_le time greatest_time
 
 -- a line of this time begins a further instant
 abbrev pub begins : Option Inputs → ℕ → Bool
 begins None time = true
 begins (Some i) time = nat_lt i.time time
 
--- a line of this time begins an instant beyond the limit of 4,294,967,295
+-- a line of this time begins an instant beyond the limit
 abbrev pub is_full : Past → ℕ → Bool
-is_full p time = is_time time && (begins p.last time && nat_le 4294967295 p.count)
+is_full p time = is_time time && (begins p.last time && nat_le instant_limit p.count)
 
 -- the time is out of range or below the last one
 abbrev pub is_wrong : Past → ℕ → Bool

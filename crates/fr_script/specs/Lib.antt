@@ -1,3 +1,4 @@
+pub mod Limits
 pub mod Reading
 pub mod Lines
 pub mod Sources
@@ -7,3 +8,4 @@ pub mod Instants
 pub mod Ahead
 pub mod Stands
 pub mod Steps
+pub mod Settled

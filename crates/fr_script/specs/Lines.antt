@@ -1,9 +1,10 @@
 -- Lines of a script and their fields.
-use Rattle.std.specs.Prelude.{ℕ, ◌≡◌, ◌^◌, ◌+◌, ◌-◌, min, Bool, true, false, ◌||◌, ◌&&◌, ◌==◌, not, if◌then◌else◌, List, [], ◌∷◌, Option, Some, None}
+use Rattle.std.specs.Prelude.{ℕ, ◌≡◌, ◌+◌, min, Bool, true, false, ◌||◌, ◌&&◌, ◌==◌, not, if◌then◌else◌, List, [], ◌∷◌, Option, Some, None}
 use Rattle.std.specs.Option.{option_map}
 use Rattle.std.specs.Str.Parse.{digits_value}
 use Rattle.fr_value.specs.Bytes.{is_blank, is_name}
 use Rattle.fr_value.specs.Grammar.{is_numeral}
+use Rattle.fr_script.specs.Limits.{greatest_number}
 
 -- the lines that a byte 10 ends, without it, and what follows the last byte 10
 abbrev pub Cut : Type 0
@@ -79,4 +80,4 @@ fields line = fields_behind (field (past_spaces line)) (past_spaces (past_field 
 pub record AreFields (line : List ℕ) (time : ℕ) (name rest : List ℕ) : Type 0 where
   pub digits : List ℕ
   pub are : fields line ≡ Some (record { time = digits; name = name; rest = rest })
-  pub time_is : time ≡ min (digits_value 10 digits) (2 ^ 64 - 1)
+  pub time_is : time ≡ min (digits_value 10 digits) greatest_number

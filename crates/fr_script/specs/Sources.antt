@@ -1,5 +1,6 @@
 -- The sources that a script may set.
-use Rattle.std.specs.Prelude.{ℕ, ◌++◌, List, [], ◌∷◌, map, Option, Some, None, if◌then◌else◌}
+use Rattle.std.specs.Prelude.{ℕ, ◌≡◌, ◌++◌, List, [], ◌∷◌, map, Option, Some, None, if◌then◌else◌}
+use Rattle.std.specs.Option.{option_or}
 use Rattle.std.specs.Str.{bytes_eq}
 use Rattle.fr_core.specs.declared.program.Program.{Program}
 use Rattle.fr_core.specs.declared.program.Input.{Input}
@@ -25,3 +26,7 @@ sources p = map input_source p.inputs ++ map event_source p.events
 abbrev pub named : List Named → List ℕ → Option Source
 named [] name = None
 named (s ∷ ss) name = if bytes_eq name s.0 then Some s.1 else named ss name
+
+-- the one map has the names of the other, and behind them these
+abbrev pub AddsNames : (List ℕ → Option Source) → List Named → (List ℕ → Option Source) → Type 0
+AddsNames old ss new = (q : List ℕ) → new q ≡ option_or (old q) (named ss q)

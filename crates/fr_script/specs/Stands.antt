@@ -4,13 +4,13 @@ use Rattle.indexmap.specs.IndexMap.{get_by_text}
 use Rattle.fr_core.specs.declared.inputs.Inputs.{Inputs}
 use Rattle.fr_script.specs.declared.turn.Turn.{Turn}
 use Rattle.fr_script.specs.declared.turn.Turn.TheVariants as turn
-use Rattle.fr_script.specs.declared.reader.ScriptReader.{ScriptReader}
+use Rattle.fr_script.specs.declared.line_reader.LineReader.{LineReader}
 use Rattle.fr_script.specs.Sources.{Named}
 use Rattle.fr_script.specs.Instants.{BadLine, Found, whole, bad_line}
 use Rattle.fr_script.specs.Ahead.{ahead}
 
 -- the reader was told that the script has ended
-abbrev pub is_told : ScriptReader → Bool
+abbrev pub is_told : LineReader → Bool
 is_told r = r.ended
 
 -- what may follow: any bytes, and nothing once the end was told; the last truth value says whether the script ends behind them
@@ -24,7 +24,7 @@ unless_bad None x = x
 unless_bad (Some b) x = record { instants = []; bad = Some b }
 
 -- what is ahead of a reader, if these bytes follow
-unfoldable pub ahead_of : ScriptReader → List ℕ → Bool → Found
+unfoldable pub ahead_of : LineReader → List ℕ → Bool → Found
 ahead_of r more ended = unless_bad r.bad (ahead (get_by_text r.names) r.past (r.rest ++ more) ended)
 
 -- these instants and what is ahead are the whole instants and the bad line of a script so far
@@ -33,7 +33,7 @@ pub record MakesUp (given : List Inputs) (x : Found) (ss : List Named) (bytes : 
   pub bad : bad_line ss bytes ended ≡ x.bad
 
 -- the reader of a script over these sources was fed these bytes and has given so many instants: with what is ahead of it they are those of the script, whatever follows
-pub record Stands (r : ScriptReader) (ss : List Named) (fed : List ℕ) (given : ℕ) : Type 0 where
+pub record Stands (r : LineReader) (ss : List Named) (fed : List ℕ) (given : ℕ) : Type 0 where
   pub instants : List Inputs
   pub given_is : length instants ≡ given
   pub goes_on : (more : List ℕ) (ended : Bool) → MayFollow (is_told r) more ended → MakesUp instants (ahead_of r more ended) ss (fed ++ more) ended
@@ -68,13 +68,21 @@ given_after turn.More given = given
 given_after turn.End given = given
 given_after (turn.Refused line kind) given = given
 
+-- behind a further piece the reader stands where it stood
+abbrev pub StandsBehind : LineReader → List ℕ → LineReader → Type 0
+StandsBehind old piece new = (ss : List Named) (fed : List ℕ) (given : ℕ) → Stands old ss fed given → Stands new ss (fed ++ piece) given
+
+-- a turn says what it is to say of any script where the reader stands, which then stands behind the turn
+abbrev pub TurnStands : Turn → LineReader → LineReader → Type 0
+TurnStands t old new = (ss : List Named) (fed : List ℕ) (given : ℕ) → Stands old ss fed given → TurnSays t ss fed (is_told old) given × Stands new ss fed (given_after t given)
+
 -- an instant that isn't whole yet counts once
 abbrev pub waiting : Option Inputs → ℕ
 waiting None = 0
 waiting (Some i) = 1
 
 -- how much a reader has before it: its bytes count twice, and an instant that isn't whole yet once
-abbrev pub left : ScriptReader → ℕ
+abbrev pub left : LineReader → ℕ
 left r = length r.rest + length r.rest + waiting r.past.last
 
 -- a turn that gives an instant leaves less, and no turn leaves more

@@ -6,7 +6,7 @@ use Rattle.fr_script.specs.declared.said.Said.{Said}
 use Rattle.fr_script.specs.declared.said.Said.TheVariants as said
 use Rattle.fr_script.specs.declared.turn.Turn.{Turn}
 use Rattle.fr_script.specs.declared.turn.Turn.TheVariants as turn
-use Rattle.fr_script.specs.declared.reader.ScriptReader.{ScriptReader}
+use Rattle.fr_script.specs.declared.line_reader.LineReader.{LineReader}
 use Rattle.fr_script.specs.Past.{Past}
 use Rattle.fr_script.specs.Instants.{BadLine, Found}
 use Rattle.fr_script.specs.Ahead.{passed, set_in, closed_by, before, nothing}
@@ -19,13 +19,13 @@ turn_of (said.Sets time e) p = option_map (λ i. turn.Instant i) (closed_by p.la
 turn_of (said.Bad k) p = Some (turn.Refused (p.lines + 1) k)
 
 -- the reader behind a line of so many bytes
-abbrev pub behind_line : Said → ScriptReader → ℕ → ScriptReader
+abbrev pub behind_line : Said → LineReader → ℕ → LineReader
 behind_line said.Blank r n = record r { past = passed r.past n; rest = drop n r.rest }
 behind_line (said.Sets time e) r n = record r { past = passed (set_in r.past time e) n; rest = drop n r.rest }
 behind_line (said.Bad k) r n = record r { bad = Some (r.past.lines + 1, k) }
 
 -- ahead of the one reader is what is ahead of the other, behind an instant if there is one
-pub record Onward (old : ScriptReader) (i : Option Inputs) (new : ScriptReader) : Type 0 where
+pub record Onward (old : LineReader) (i : Option Inputs) (new : LineReader) : Type 0 where
   pub told : is_told new ≡ is_told old
   pub same : (more : List ℕ) (ended : Bool) → MayFollow (is_told old) more ended → ahead_of old more ended ≡ before i (ahead_of new more ended)
 
@@ -34,14 +34,14 @@ abbrev pub only_bad : BadLine → Found
 only_bad b = record { instants = []; bad = Some b }
 
 -- a turn goes from one reader to the other
-abbrev pub TurnGoes : Turn → ScriptReader → ScriptReader → Type 0
+abbrev pub TurnGoes : Turn → LineReader → LineReader → Type 0
 TurnGoes (turn.Instant i) old new = Onward old (Some i) new
 TurnGoes turn.More old new = Onward old None new × (is_told old ≡ false) × (ahead_of old [] false ≡ nothing)
 TurnGoes turn.End old new = Onward old None new × (is_told old ≡ true) × (ahead_of old [] true ≡ nothing)
 TurnGoes (turn.Refused line kind) old new = Onward old None new × ((more : List ℕ) (ended : Bool) → MayFollow (is_told old) more ended → ahead_of old more ended ≡ only_bad (line, kind))
 
 -- one step gives a turn, or goes on with fewer bytes
-abbrev pub Steps : Option Turn → ScriptReader → ScriptReader → Type 0
+abbrev pub Steps : Option Turn → LineReader → LineReader → Type 0
 Steps None old new = Onward old None new × (length new.rest < length old.rest)
 Steps (Some t) old new = TurnGoes t old new
 

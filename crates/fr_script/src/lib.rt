@@ -2,6 +2,7 @@
 #![tactic(auto)]
 
 mod laws;
+mod line_reader;
 mod lines;
 mod progress;
 mod reader;

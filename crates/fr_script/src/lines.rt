@@ -1,8 +1,9 @@
 //! Lines of a script as bytes: whether one is blank, and its fields.
 
-ghost use Rattle.std.specs.Prelude.{◌≡◌, ◌≤◌, ◌||◌, ◌==◌, ◌^◌, ◌-◌, min, true, false, None, Some, MatchOption, IfSome, length};
+ghost use Rattle.std.specs.Prelude.{◌≡◌, ◌≤◌, ◌||◌, ◌==◌, min, true, false, None, Some, MatchOption, IfSome, length};
 ghost use Rattle.std.specs.Str.Parse.{digits_value};
 ghost use Rattle.fr_value.specs.Grammar.{is_numeral};
+ghost use Rattle.fr_script.specs.Limits.{greatest_number};
 ghost use Rattle.fr_script.specs.Lines.{is_blank_line, past_spaces, field, past_field, has_more, fields, AreFields};
 
 use fr_reader::is_blank;
@@ -65,7 +66,8 @@ fn has_more(bytes: &[u8]) -> bool
 
 /// The number that these digits write, or the greatest of 64 bits where it is greater; None where they aren't digits alone.
 fn number(digits: &[u8]) -> Option<u64>
-    ensures { MatchOption result (is_numeral digits.now ≡ false) (λ n. (is_numeral digits.now ≡ true) × (n ≡ min (digits_value 10 digits.now) (2 ^ 64 - 1))) }
+    ensures { MatchOption result (is_numeral digits.now ≡ false)
+        (λ n. (is_numeral digits.now ≡ true) × (n ≡ min (digits_value 10 digits.now) greatest_number)) }
 {
     if digits.is_empty() {
         return None;

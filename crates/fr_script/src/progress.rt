@@ -1,9 +1,10 @@
 //! What is known of the lines before a line.
 
 ghost use Rattle.std.specs.Prelude.{◌≡◌, ◌+◌, ◌<◌, ◌≤◌, IfOk, OnErr, None, Some, true, false};
+ghost use Rattle.fr_script.specs.Limits.{script_limit, instant_limit};
 ghost use Rattle.fr_script.specs.Instants.{alone};
 ghost use Rattle.fr_script.specs.Kinds.{is_long, is_beyond, is_time, is_full, is_wrong, begins, stands, last_time};
-ghost use Rattle.fr_script.specs.Ahead.{none_before, passed, set_in, closed_by, CanJoin, MaySet, joins};
+ghost use Rattle.fr_script.specs.Ahead.{none_before, passed, IsSetIn, CanJoin, MaySet, joins};
 
 use fr_core::{Entry, Inputs, Sets};
 use fr_value::SrcId;
@@ -32,6 +33,7 @@ pub struct Progress {
 
 impl Model for Progress {
     ghost use Rattle.std.specs.Prelude.{◌≤◌};
+    ghost use Rattle.fr_script.specs.Limits.{script_limit};
     ghost use Rattle.fr_script.specs.Past.{Past, past_code};
 
     ghost Value = { Past };
@@ -40,7 +42,7 @@ impl Model for Progress {
 
     ghost view = { λ p. record { lines = p.lines; bytes = p.bytes; count = p.count; last = p.last } };
 
-    ghost invariant = { λ p. (p.lines ≤ p.bytes) × (p.bytes ≤ 1099511627776) };
+    ghost invariant = { λ p. (p.lines ≤ p.bytes) × (p.bytes ≤ script_limit) };
 }
 
 fn time_of(last: &Option<Inputs>) -> u64
@@ -163,7 +165,7 @@ impl Progress {
     /// Goes behind one more line of so many bytes.
     pub fn pass(&mut self, n: u64)
         requires some { 0 < n }
-        requires within { self.old.bytes + n ≤ 1099511627776 }
+        requires within { self.old.bytes + n ≤ script_limit }
         ensures { self.new ≡ passed self.old n }
     {
         self.bytes += n;
@@ -177,8 +179,8 @@ impl Progress {
         entry: Entry,
     ) -> Result<Option<Inputs>, AllocError>
         requires begins { begins self.old.last time ≡ true }
-        requires room { self.old.count < 4294967295 }
-        ensures ok { IfOk result (λ closed. (closed ≡ closed_by self.old.last time) × (self.new ≡ set_in self.old time entry)) }
+        requires room { self.old.count < instant_limit }
+        ensures ok { IfOk result (λ closed. IsSetIn self.old time entry closed self.new) }
         ensures err { OnErr result (self.new ≡ self.old) }
     {
         let inputs = alone(alloc, time, entry)?;
@@ -189,7 +191,7 @@ impl Progress {
     fn join(&mut self, time: u64, entry: Entry) -> Result<(), AllocError>
         requires begins { begins self.old.last time ≡ false }
         requires free { CanJoin self.old.last entry.source }
-        ensures ok { IfOk result (λ _. (None ≡ closed_by self.old.last time) × (self.new ≡ set_in self.old time entry)) }
+        ensures ok { IfOk result (λ _. IsSetIn self.old time entry None self.new) }
         ensures err { OnErr result (self.new ≡ self.old) }
     {
         add(&mut self.last, entry)
@@ -203,7 +205,7 @@ impl Progress {
         entry: Entry,
     ) -> Result<Option<Inputs>, AllocError>
         requires { MaySet self.old time entry.source }
-        ensures ok { IfOk result (λ closed. (closed ≡ closed_by self.old.last time) × (self.new ≡ set_in self.old time entry)) }
+        ensures ok { IfOk result (λ closed. IsSetIn self.old time entry closed self.new) }
         ensures err { OnErr result (self.new ≡ self.old) }
     {
         if self.begins(time) {

@@ -1,34 +1,35 @@
-//! The reader of a script that comes in pieces.
+//! The reader of a script that comes in pieces, as its callers see it.
 
-ghost use Rattle.std.specs.Prelude.{◌≡◌, ◌≤◌, ◌<◌, ◌+◌, ◌++◌, ℕ, List, [], Some, None, true, false, length, take, IfOk, OnOk, OnErr};
-ghost use Rattle.indexmap.specs.IndexMap.{get_by_text};
-ghost use Rattle.fr_script.specs.Lines.{line_end};
+ghost use Rattle.std.specs.Prelude.{◌≡◌, ℕ, List, [], true, false, IfOk, OnOk, OnErr};
 ghost use Rattle.fr_script.specs.Sources.{Named, sources};
-ghost use Rattle.fr_script.specs.Kinds.{says};
-ghost use Rattle.fr_script.specs.Stands.{Stands, TurnSays, given_after, is_told, left, Falls};
-ghost use Rattle.fr_script.specs.Steps.{turn_of, behind_line, Onward, Steps, TurnGoes, StepFalls};
+ghost use Rattle.fr_script.specs.Stands.{Stands, StandsBehind, TurnStands, is_told, left, Falls};
 
-use crate::progress::Progress;
-use crate::rest::Rest;
-use crate::said::{Said, said_line};
-use crate::sources::{Source, names_of};
-use crate::turn::{LineKind, Turn};
+use crate::line_reader::LineReader;
+use crate::turn::Turn;
 use fr_core::Program;
-use indexmap::IndexMap;
 use std::alloc::{AllocError, Global};
+use std::marker::Model;
 
 /// Reads a script that comes in pieces, and gives its instants in order.
 ///
 /// It keeps the names of the sources, the bytes behind the last line that it took, and the instant that isn't whole yet.
+/// Contracts see it behind every line that it takes before it has a turn to give. Which of these lines it took already,
+/// no call tells.
 #[derive(Drop)]
 pub struct ScriptReader {
-    alloc: Global,
-    names: IndexMap<String, Source>,
-    past: Progress,
-    rest: Rest,
-    ended: bool,
-    // the bad line that was met, by its number
-    bad: Option<(u64, LineKind)>,
+    lines: LineReader,
+}
+
+impl Model for ScriptReader {
+    ghost use Rattle.fr_script.specs.declared.line_reader.LineReader.{LineReader};
+    ghost use Rattle.fr_script.specs.contracts.line_reader.LineReader as line_reader;
+    ghost use Rattle.fr_script.specs.Settled.{settled};
+
+    ghost Value = { LineReader };
+
+    ghost coded = { line_reader.the_row.coded };
+
+    ghost view = { λ r. settled r.lines };
 }
 
 impl ScriptReader {
@@ -37,15 +38,8 @@ impl ScriptReader {
         ensures stands { IfOk result (λ r. Stands r (sources program.now) [] 0) }
         ensures told { IfOk result (λ r. is_told r ≡ false) }
     {
-        let names = names_of(alloc, program)?;
-        Ok(ScriptReader {
-            alloc,
-            names,
-            past: Progress::new(),
-            rest: Rest::new(alloc),
-            ended: false,
-            bad: None,
-        })
+        let lines = LineReader::new(alloc, program)?;
+        Ok(ScriptReader { lines })
     }
 
     /// Appends a piece to the script, whose end was not told yet. After want of memory the reader is unchanged.
@@ -53,144 +47,32 @@ impl ScriptReader {
     /// Nothing is kept of what follows a bad line that was met.
     pub fn feed(&mut self, piece: &[u8]) -> Result<(), AllocError>
         requires { is_told self.old ≡ false }
-        ensures stands { OnOk result ((ss : List Named) (fed : List ℕ) (given : ℕ) → Stands self.old ss fed given → Stands self.new ss (fed ++ piece.now) given) }
+        ensures stands { OnOk result (StandsBehind self.old piece.now self.new) }
         ensures told { is_told self.new ≡ false }
         ensures err { OnErr result (self.new ≡ self.old) }
     {
-        if self.bad.is_some() {
-            return Ok(());
-        }
-        self.rest.feed(piece)
+        self.lines.feed(piece)
     }
 
     /// Tells that the script has ended. It takes no memory.
     pub fn end(&mut self)
-        ensures stands { (ss : List Named) (fed : List ℕ) (given : ℕ) → Stands self.old ss fed given → Stands self.new ss fed given }
+        ensures stands { (ss : List Named) (fed : List ℕ) (given : ℕ)
+            → Stands self.old ss fed given → Stands self.new ss fed given }
         ensures told { is_told self.new ≡ true }
     {
-        self.ended = true;
-    }
-
-    fn refuse(&mut self, kind: LineKind) -> Turn
-        ensures turn { result ≡ Turn.Refused (self.old.past.lines + 1) kind }
-        ensures after { self.new ≡ record self.old { bad = Some (self.old.past.lines + 1, kind) } }
-    {
-        let line = self.past.line();
-        self.bad = Some((line, kind));
-        Turn::Refused { line, kind }
-    }
-
-    /// Takes a line, which has so many bytes with the newline that ends it.
-    fn take_line(&mut self, n: usize, bytes: usize) -> Result<Option<Turn>, AllocError>
-        requires some { 0 < bytes }
-        requires line { n ≤ length self.old.rest }
-        requires within { bytes ≤ length self.old.rest }
-        ensures ok { IfOk result (λ t. let s = says (get_by_text self.old.names) self.old.past (take n self.old.rest) bytes in
-            (t ≡ turn_of s self.old.past) × (self.new ≡ behind_line s self.old bytes)) }
-        ensures err { OnErr result (self.new ≡ self.old) }
-    {
-        match said_line(
-            self.alloc,
-            &self.names,
-            &self.past,
-            self.rest.front(n),
-            bytes as u64,
-        )? {
-            Said::Blank => {
-                self.rest.take(bytes);
-                self.past.pass(bytes as u64);
-                Ok(None)
-            }
-            Said::Sets(time, entry) => {
-                let closed = self.past.set(self.alloc, time, entry)?;
-                self.rest.take(bytes);
-                self.past.pass(bytes as u64);
-                Ok(closed.map(Turn::Instant))
-            }
-            Said::Bad(kind) => Ok(Some(self.refuse(kind))),
-        }
-    }
-
-    /// What follows the last newline is a line too, and the end makes the last instant whole.
-    fn finish(&mut self) -> Result<Option<Turn>, AllocError>
-        requires told { is_told self.old ≡ true }
-        requires good { self.old.bad ≡ None }
-        requires rest { line_end self.old.rest ≡ None }
-        ensures ok { IfOk result (λ t. Steps t self.old self.new) }
-        ensures falls { IfOk result (λ t. StepFalls t (left self.old) (left self.new)) }
-        ensures err { OnErr result (self.new ≡ self.old) }
-    {
-        let n = self.rest.len();
-        if n > 0 {
-            return self.take_line(n, n);
-        }
-        match self.past.take() {
-            Some(last) => Ok(Some(Turn::Instant(last))),
-            None => Ok(Some(Turn::End)),
-        }
-    }
-
-    /// What follows the last newline is no line yet, but may be too long already.
-    fn pause(&mut self) -> Turn
-        requires told { is_told self.old ≡ false }
-        requires good { self.old.bad ≡ None }
-        requires rest { line_end self.old.rest ≡ None }
-        ensures goes { TurnGoes result self.old self.new }
-        ensures falls { Falls result (left self.old) (left self.new) }
-    {
-        let left = self.rest.len();
-        if left == 0 {
-            return Turn::More;
-        }
-        if self.past.is_long(self.rest.front(left)) {
-            return self.refuse(LineKind::Long);
-        }
-        if self.past.is_beyond(left as u64) {
-            return self.refuse(LineKind::Many);
-        }
-        Turn::More
-    }
-
-    /// Takes one line, or tells what there is without one.
-    fn step(&mut self) -> Result<Option<Turn>, AllocError>
-        ensures ok { IfOk result (λ t. Steps t self.old self.new) }
-        ensures falls { IfOk result (λ t. StepFalls t (left self.old) (left self.new)) }
-        ensures err { OnErr result (self.new ≡ self.old) }
-    {
-        if let Some((line, kind)) = self.bad {
-            return Ok(Some(Turn::Refused { line, kind }));
-        }
-        match self.rest.line_end() {
-            Some(n) => self.take_line(n, n + 1),
-            None => {
-                if self.ended {
-                    self.finish()
-                } else {
-                    Ok(Some(self.pause()))
-                }
-            }
-        }
+        self.lines.end();
     }
 
     /// Gives the next instant; or, where all whole instants were given, the bad line, the end, or `More` where the script
-    /// may go on. After want of memory the same is ahead of the reader as before, whatever follows: it may have passed lines
-    /// that make no instant whole, but no later call tells it from the reader that it was.
+    /// may go on. After want of memory the reader is unchanged.
     ///
     /// An instant leaves less before the reader and no turn leaves more, so that a caller who takes turns comes to an end.
     pub fn next(&mut self) -> Result<Turn, AllocError>
-        ensures ok { IfOk result (λ t. (ss : List Named) (fed : List ℕ) (given : ℕ) → Stands self.old ss fed given
-            → TurnSays t ss fed (is_told self.old) given × Stands self.new ss fed (given_after t given)) }
+        ensures ok { IfOk result (λ t. TurnStands t self.old self.new) }
         ensures falls { IfOk result (λ t. Falls t (left self.old) (left self.new)) }
         ensures told { is_told self.new ≡ is_told self.old }
-        ensures err { OnErr result ((ss : List Named) (fed : List ℕ) (given : ℕ) → Stands self.old ss fed given → Stands self.new ss fed given) }
-        ensures same { OnErr result (Onward self.old None self.new) }
+        ensures err { OnErr result (self.new ≡ self.old) }
     {
-        'lines: loop {
-            match self.step() {
-                Ok(Some(turn)) => return Ok(turn),
-                Ok(None) => {}
-                Err(e) => return Err(e),
-            }
-        }
+        self.lines.next()
     }
 }

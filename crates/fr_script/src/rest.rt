@@ -24,7 +24,10 @@ impl Model for Rest {
 
     ghost view = { λ r. drop r.at r.bytes.items };
 
-    ghost invariant = { λ r. (r.at ≤ length r.bytes.items) × (r.seen ≤ length (drop r.at r.bytes.items)) × (line_end (take r.seen (drop r.at r.bytes.items)) ≡ None) };
+    ghost invariant = { λ r.
+        (r.at ≤ length r.bytes.items)
+        × (r.seen ≤ length (drop r.at r.bytes.items))
+        × (line_end (take r.seen (drop r.at r.bytes.items)) ≡ None) };
 }
 
 /// The number of bytes before the first newline.

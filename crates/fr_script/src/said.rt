@@ -1,8 +1,9 @@
 //! What one line of a script says.
 
-ghost use Rattle.std.specs.Prelude.{◌≡◌, ℕ, min, ◌^◌, ◌-◌, IfOk};
+ghost use Rattle.std.specs.Prelude.{◌≡◌, ℕ, min, IfOk};
 ghost use Rattle.std.specs.Option.{option_copied};
 ghost use Rattle.indexmap.specs.IndexMap.{get_by_text};
+ghost use Rattle.fr_script.specs.Limits.{greatest_number};
 ghost use Rattle.fr_script.specs.Kinds.{says, says_source, says_value, says_at};
 ghost use Rattle.fr_script.specs.Reading.{reading};
 
@@ -61,7 +62,7 @@ fn said_at(
     past: &Progress,
     line: LineFields<'_>,
 ) -> Result<Said, AllocError>
-    ensures { IfOk result (λ s. (digits : ℕ) → line.entry.time ≡ min digits (2 ^ 64 - 1)
+    ensures { IfOk result (λ s. (digits : ℕ) → line.entry.time ≡ min digits greatest_number
         → s ≡ says_at (get_by_text names.now) past.now digits line.entry.name.now line.entry.rest.now) }
 {
     if past.is_full(line.time) {

@@ -1,10 +1,8 @@
 //! The sources that a script may set, by name.
 
-ghost use Rattle.std.specs.Prelude.{◌≡◌, ◌++◌, ℕ, List, [], None, Some, map, IfOk, OnOk, if◌then◌else◌};
-ghost use Rattle.std.specs.Option.{option_or};
-ghost use Rattle.std.specs.Str.{bytes_eq};
+ghost use Rattle.std.specs.Prelude.{◌≡◌, ◌++◌, ℕ, List, [], ◌∷◌, map, IfOk, OnOk};
 ghost use Rattle.indexmap.specs.IndexMap.{get_by_text};
-ghost use Rattle.fr_script.specs.Sources.{named, input_source, event_source, sources};
+ghost use Rattle.fr_script.specs.Sources.{named, AddsNames, input_source, event_source, sources};
 
 use fr_core::{Event, Input, Program};
 use fr_value::SrcId;
@@ -35,7 +33,7 @@ fn add(
     name: &str,
     source: Source,
 ) -> Result<(), AllocError>
-    ensures { OnOk result ((q : List ℕ) → get_by_text names.new q ≡ option_or (get_by_text names.old q) (if bytes_eq q name.now then Some source else None)) }
+    ensures { OnOk result (AddsNames (get_by_text names.old) ((name.now, source) ∷ []) (get_by_text names.new)) }
 {
     if !names.contains_key(name) {
         names.insert(String::from_str(alloc, name)?, source)?;
@@ -48,7 +46,7 @@ fn add_inputs(
     names: &mut IndexMap<String, Source>,
     inputs: &[Input],
 ) -> Result<(), AllocError>
-    ensures { OnOk result ((q : List ℕ) → get_by_text names.new q ≡ option_or (get_by_text names.old q) (named (map input_source inputs.now) q)) }
+    ensures { OnOk result (AddsNames (get_by_text names.old) (map input_source inputs.now) (get_by_text names.new)) }
 {
     for input in inputs {
         let source = Source {
@@ -65,7 +63,7 @@ fn add_events(
     names: &mut IndexMap<String, Source>,
     events: &[Event],
 ) -> Result<(), AllocError>
-    ensures { OnOk result ((q : List ℕ) → get_by_text names.new q ≡ option_or (get_by_text names.old q) (named (map event_source events.now) q)) }
+    ensures { OnOk result (AddsNames (get_by_text names.old) (map event_source events.now) (get_by_text names.new)) }
 {
     for event in events {
         let source = Source {

@@ -1,3 +1,5 @@
+//! What a script reader gives: the next instant, or why there is none.
+
 use fr_core::Inputs;
 
 /// Why a line is bad.

@@ -1,7 +1,7 @@
 use Rattle.std.proofs.Common.{refl, sym, ◌∙◌, ap}
 use Rattle.fr_script.specs.Kinds.{is_long}
 use Rattle.fr_script.proofs.Goes.{empty_goes, long_goes, many_goes, more_goes}
-use Rattle.fr_script.proofs.reader.ScriptReader.pause.Goals as goal
+use Rattle.fr_script.proofs.line_reader.LineReader.pause.Goals as goal
 
 pub returns-then-left-eq0-clause-goes : goal.returns-then-left-eq0-clause-goes
 returns-then-left-eq0-clause-goes c = empty_goes c.args.self.now c.args.self.now c.requires.told c.requires.good (sym c.len-left.ensures ∙ c.if-left-eq0.true) refl

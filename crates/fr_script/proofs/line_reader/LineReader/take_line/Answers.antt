@@ -1,7 +1,7 @@
 use Rattle.std.proofs.Common.{sym, ◌∙◌, ap, subst, arith}
 use Rattle.indexmap.specs.IndexMap.{get_by_text}
 use Rattle.fr_script.proofs.Tells.{IsGood, good_fits, sets_tell, set_bytes}
-use Rattle.fr_script.proofs.reader.ScriptReader.take_line.Goals as goal
+use Rattle.fr_script.proofs.line_reader.LineReader.take_line.Goals as goal
 
 pub pass-requires-clause-within : goal.pass-requires-clause-within
 pass-requires-clause-within c =
