@@ -1,0 +1,5 @@
+mod Parts
+mod Works
+mod Calls
+mod Inside
+pub mod Values

@@ -1,0 +1,10 @@
+pub mod Slots
+pub mod Kernels
+pub mod Numbers
+pub mod Erasure
+pub mod Graph
+pub mod Walk
+pub mod Wired
+pub mod Keeps
+pub mod Known
+pub mod Sound

@@ -1,0 +1,2 @@
+//! What the graph of signals stands for.
+#![tactic(auto)]
