@@ -46,6 +46,14 @@ handler_value h cell xs call other same = by_begun (handler_begin h cell xs) (ha
     by_begun (known l) a = refl
     by_begun (asks args) a = ap (λ v. (handler_line h args v).value) (same args a)
 
+pub handler_next : (h : Handler) (cell : Option Cell) (xs : List Seen) (call other : Call) → ((args : List Seen) → length args ≡ handler_binds h → (call args).value ≡ (other args).value)
+    → (state_now (of_handler h) cell xs call).next ≡ (state_now (of_handler h) cell xs other).next
+handler_next h cell xs call other same = by_begun (handler_begin h cell xs) (handler_asks h cell xs)
+  where
+    by_begun : (b : Begun) → AsksFor (handler_binds h) b → (finished call (handler_end h) b).next ≡ (finished other (handler_end h) b).next
+    by_begun (known l) a = refl
+    by_begun (asks args) a = ap (λ v. (handler_line h args v).next) (same args a)
+
 -- each of these has so many values
 abbrev AllOf : ℕ → List (List Seen) → Type 0
 AllOf n [] = Unit {0}

@@ -3,3 +3,4 @@ mod Works
 mod Calls
 mod Inside
 pub mod Values
+mod Cells

@@ -1,8 +1,9 @@
 -- Which kept trees have the cells that nodes have.
-use Rattle.std.specs.Prelude.{◌≡◌, ℕ, zero, suc, ◌+◌, Bool, true, false, List, [], ◌∷◌, ◌++◌, length, slice_get, Option, Some, None}
+use Rattle.std.specs.Prelude.{◌≡◌, ℕ, zero, suc, ◌+◌, Bool, true, false, List, [], ◌∷◌, ◌++◌, length, slice_get, Option, Some, None, Ok}
 use Rattle.fr_core.specs.declared.kept.Key.{Key}
 use Rattle.fr_core.specs.declared.kept.Key.TheVariants as key
-use Rattle.fr_core.specs.declared.kept.Kept.{Kept}
+use Rattle.fr_core.specs.declared.kept.Kept.{Kept, out-Kept}
+use Rattle.fr_core.specs.declared.kept.Kept.TheOpen.{Kept-F}
 use Rattle.fr_core.specs.declared.lowered.Low.{Low, out-Low}
 use Rattle.fr_core.specs.declared.lowered.Low.TheOpen.{Low-F}
 use Rattle.fr_meaning.specs.Words.{test_of}
@@ -78,3 +79,25 @@ Keeps g p q (suc n) e env ms k = ShapeKeeps g p q (place p n) (Keeps g p q n) en
 -- nothing is asked of watches
 abbrev pub asks_nothing : ℕ → Kept → Type 0
 asks_nothing w k = Unit {0}
+
+abbrev pub switch_key_at : Kept-F Kept → Option Key
+switch_key_at (Kept-F.Switch old k) = Some old
+switch_key_at k = None
+
+-- what the switch of a tree chose by
+unfoldable pub switch_key : Kept → Option Key
+switch_key k = switch_key_at (out-Kept k)
+
+-- the switch of a tree chose by what the watch has now
+pub record HasKey (g : Graph) (w : ℕ) (k : Kept) : Type 0 where
+  pub holds : Bool
+  pub value : test_of (g.value w) ≡ Ok holds
+  pub chose : switch_key k ≡ Some (key.Test holds)
+
+-- everything is known
+abbrev pub everything : ℕ → Type 0
+everything m = Unit {0}
+
+-- the graph stands for a kept tree: it has the cells of all nodes, and each of its switches chose by what the watch has
+abbrev pub StandsFor : Graph → Plan → ℕ → Keeping
+StandsFor g p n = Keeps g p (record { known = everything; cell = g.cell; asks = HasKey g }) n

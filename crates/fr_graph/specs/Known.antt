@@ -1,12 +1,16 @@
 -- What is known to be right of a graph: everything at the end of an instant, and what stands below a height while one is under way.
-use Rattle.std.specs.Prelude.{◌≡◌, ◌⊎◌, ℕ, Bool, true, false, List, [], ◌∷◌, slice_get, Option, Result, Ok}
+use Rattle.std.specs.Prelude.{◌≡◌, ◌⊎◌, ℕ, Bool, true, false, List, [], ◌∷◌, slice_get, Option, Some, Result, Ok, Err}
 use Rattle.fr_value.specs.declared.now.Now.{Now}
+use Rattle.fr_value.specs.declared.now.Bad.{Bad}
+use Rattle.fr_value.specs.declared.now.Bad.TheVariants.{Deep}
+use Rattle.fr_core.specs.declared.core_form.Operator.TheVariants as operator
+use Rattle.fr_meaning.specs.States.{datum_next, payload_next}
 use Rattle.fr_core.specs.declared.lowered.Low.{Low}
-use Rattle.fr_meaning.specs.Words.{Seen, Env, test_of}
+use Rattle.fr_meaning.specs.Words.{Seen, Env, datum_in, event_of, test_of}
 use Rattle.fr_meaning.specs.Cells.{Cell}
 use Rattle.fr_meaning.specs.Evaluation.{source_seen}
 use Rattle.fr_graph.specs.Kernels.{Kernels}
-use Rattle.fr_graph.specs.Graph.{Part, steady, signal, Work, Kind, source, works, watch, result, Graph, part_value, part_values, work_line, is_late}
+use Rattle.fr_graph.specs.Graph.{Part, steady, signal, Work, operates, feeds, Kind, source, works, watch, result, Graph, part_value, part_values, work_line, is_late}
 use Rattle.fr_graph.specs.Walk.{Plan}
 use Rattle.fr_graph.specs.Wired.{Chosen, EraStands}
 
@@ -60,3 +64,26 @@ SettledOn g known t sources before = (m : ℕ) → known m → g.live m ≡ true
 abbrev pub ErasStandOn : Graph → (ℕ → Type 0) → Plan → Type 0
 ErasStandOn g known p = (w : ℕ) (a b : Low) (env : List Part) → known w → g.live w ≡ true → g.kind w ≡ watch a b env
     → Chosen (test_of (g.value w)) (EraStands g p w a env) (EraStands g p w b env)
+
+-- what the cell of a work takes behind the instant from the value of its last part
+abbrev pub latch : Work → Seen → Result Cell Bad
+latch (operates operator.Delay) v = datum_next (datum_in v)
+latch (operates operator.DelayE) v = payload_next (event_of v)
+latch feeds v = datum_next (datum_in v)
+latch w v = Err Deep
+
+-- a work's cell took the value of its last part
+pub record IsLatched (g : Graph) (m : ℕ) (w : Work) (last : Part) : Type 0 where
+  pub taken : Cell
+  pub takes : latch w (part_value g last) ≡ Ok taken
+  pub kept : g.cell m ≡ Some taken
+
+-- a node has a value
+pub record HasValue (g : Graph) (m : ℕ) : Type 0 where
+  pub now : Now
+  pub value : g.value m ≡ Ok now
+
+-- an instant has ended: each live node has a value, and the works that take their last part's value have taken it
+pub record HasEnded (g : Graph) : Type 0 where
+  pub good : (m : ℕ) → g.live m ≡ true → HasValue g m
+  pub latched : (m : ℕ) (w : Work) (last : Part) → g.live m ≡ true → g.kind m ≡ works w → is_late w ≡ true → g.later m ≡ Some last → IsLatched g m w last

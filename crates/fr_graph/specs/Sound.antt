@@ -1,12 +1,12 @@
 -- What is so of a lowered program whatever it runs over.
-use Rattle.std.specs.Prelude.{◌≡◌, ◌≤◌, ℕ, List, ◌++◌, map, length, slice_get, Some}
+use Rattle.std.specs.Prelude.{◌≡◌, ◌≤◌, ℕ, true, List, ◌++◌, map, length, slice_get, Some}
 use Rattle.fr_value.specs.declared.now.Now.{Now}
 use Rattle.fr_core.specs.declared.kept.Kept.{Kept}
 use Rattle.fr_meaning.specs.Words.{Seen}
 use Rattle.fr_meaning.specs.Evaluation.{world_of, eval_to}
 use Rattle.fr_graph.specs.Graph.{kernel_run}
 use Rattle.fr_core.specs.Classes.{IsPureExpr}
-use Rattle.fr_core.specs.Shapes.{handler_parts}
+use Rattle.fr_core.specs.Shapes.{operator_takes, handler_parts}
 use Rattle.fr_core.specs.declared.lowered.Low.{Low, out-Low}
 use Rattle.fr_core.specs.declared.lowered.Low.TheOpen.{Low-F}
 use Rattle.fr_core.specs.declared.lowered.LowFunction.{LowFunction}
@@ -16,8 +16,9 @@ use Rattle.fr_graph.specs.Slots.{slots_of}
 use Rattle.fr_graph.specs.Erasure.{Place, Everywhere, FitsPlace, erased_function}
 use Rattle.fr_graph.specs.Walk.{Plan}
 
--- a handler and a loop have their number of parts
+-- an operator, a handler and a loop have their number of parts
 abbrev pub HasParts : {X : Type 0} → Low-F X → Type 0
+HasParts (Low-F.Operator o es) = operator_takes o (length es) ≡ true
 HasParts (Low-F.Handler h es id ss) = length es ≡ handler_parts h
 HasParts (Low-F.Loop l es id ss) = length es ≡ 2
 HasParts f = Unit {0}
