@@ -4,3 +4,4 @@ mod Calls
 mod Inside
 pub mod Values
 mod Cells
+pub mod Trees

@@ -82,12 +82,12 @@ module _ (g : Graph) (known : ℕ → Type 0) (p : Plan) (pr : Program) (plan : 
     abbrev Trees : Low → List Part → List ℕ → Kept → Type 0
     Trees = Keeps g p q n
 
-    all_on : (es : List Low) (i : ℕ) (ms : List ℕ) (k : Kept) → AllSound t (length env) es → AllStand walk Stands env es ms → AllKeep walk Trees env i es ms k
+    pub all_on : (es : List Low) (i : ℕ) (ms : List ℕ) (k : Kept) → AllSound t (length env) es → AllStand walk Stands env es ms → AllKeep walk Trees env i es ms k
         → Have g known (place_all walk env es ms).parts (parts ev vs k i (map f es)).values
     all_on [] i ms k s st kp = tt
     all_on (e ∷ es) i ms k s st kp = (ih e x env vs ms (child k i) s.0 en st.0 kp.0, all_on es (i + 1) (walk e env ms).left k s.1 st.1 kp.1)
 
-    slots_on : (ss : List Slot) → SlotsStand g p ss → Have g known (slot_parts p env ss) (map (slot_seen sources vs) ss)
+    pub slots_on : (ss : List Slot) → SlotsStand g p ss → Have g known (slot_parts p env ss) (map (slot_seen sources vs) ss)
     slots_on [] st = tt
     slots_on (slot.Var v ∷ ss) st = (λ kn. have_at g known env vs v.0 en kn, slots_on ss st)
     slots_on (slot.Source s ∷ ss) st = (λ kn. source_value s.0 st.0 kn, slots_on ss st.1)
@@ -96,7 +96,7 @@ module _ (g : Graph) (known : ℕ → Type 0) (p : Plan) (pr : Program) (plan : 
     opens c l k h = ap (λ l. (layer w ev vs k l).value) (sym h) ∙ ap (λ d. d.value) (sym (evaluates n w c vs k))
 
     -- a kernel that fits here gives what its expression does
-    kernel_means : (m id b : ℕ) (ss : List Slot) (args : List Seen) (tree : Kept) → m ≤ 2001 → Fits t.kernels (length env) (record { id = id; binds = b; slots = ss }) → length args ≡ b
+    pub kernel_means : (m id b : ℕ) (ss : List Slot) (args : List Seen) (tree : Kept) → m ≤ 2001 → Fits t.kernels (length env) (record { id = id; binds = b; slots = ss }) → length args ≡ b
         → (kernel_run t m id (map (slot_seen sources vs) ss) args).value ≡ (eval_to m w (kernel_expr t.kernels id) (vs ++ args) tree).value
     kernel_means m id b ss args tree le fit e =
         let said = means m id fit.kernel le fit.stands vs args (sym (have_length g known env vs en) ∙ sym fit.first) (e ∙ sym fit.params) tree in

@@ -38,6 +38,10 @@ plain_any t n (loops l id) c d xs h = refl
 plain_any t n (runs id) c d xs h = refl
 plain_any t n feeds c d xs h = absurd (false≢true h)
 
+-- a work that isn't plain has a node
+pub stands_next : (g : Graph) (x n : ℕ) (w : Work) (ps : List Part) (ms : List ℕ) → is_plain w ≡ false → WorkStands g x n w ps ms → IsNext g x n (works w) (inputs_of w ps) (later_of w ps) ms
+stands_next g x n w ps ms plain st = subst (λ b. Unless (b && all_steady ps) (IsNext g x n (works w) (inputs_of w ps) (later_of w ps) ms)) plain st
+
 module _ (g : Graph) (known : ℕ → Type 0) where
   -- a work's value by those of its inputs is that by the values of all its parts
   input_line : (t : Kernels) (n : ℕ) (w : Work) (c : Option Cell) (ps : List Part) (vs : List Seen) → Have g known ps vs → AllKnown known (inputs_of w ps)
@@ -69,7 +73,7 @@ module _ (g : Graph) (known : ℕ → Type 0) (t : Kernels) (sources : List Now)
   pub inputs_on : (x n : ℕ) (k : Kind) (ins : List Part) (later : Option Part) (ms : List ℕ) → known (first ms) → IsNext g x n k ins later ms → AllKnown known ins
   inputs_on x n k ins later ms kn st = read_known known ins (λ j r. closed.input (first ms) j kn st.live (subst (λ (l : List Part). Reads j l) (sym st.inputs) r))
 
-  node_value : (x n : ℕ) (w : Work) (ps : List Part) (vs : List Seen) (ms : List ℕ) (c : Option Cell)
+  pub node_value : (x n : ℕ) (w : Work) (ps : List Part) (vs : List Seen) (ms : List ℕ) (c : Option Cell)
       → known (first ms) → IsNext g x n (works w) (inputs_of w ps) (later_of w ps) ms → Have g known ps vs → before (first ms) ≡ c
       → g.value (first ms) ≡ (work_line t n w c vs).value
   node_value x n w ps vs ms c kn st h e =
