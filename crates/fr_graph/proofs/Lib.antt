@@ -5,3 +5,4 @@ mod Inside
 pub mod Values
 mod Cells
 pub mod Trees
+pub mod Carry

@@ -8,3 +8,4 @@ pub mod Wired
 pub mod Keeps
 pub mod Known
 pub mod Sound
+pub mod Goes
