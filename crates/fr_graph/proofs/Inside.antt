@@ -10,8 +10,8 @@ use Rattle.fr_core.specs.declared.lowered.LowFunction.{LowFunction}
 use Rattle.fr_core.specs.declared.program.Function.{Function}
 use Rattle.fr_meaning.specs.Evaluation.{body_for}
 use Rattle.fr_graph.specs.Graph.{Part}
-use Rattle.fr_graph.specs.Kernels.{Kernels, Kernel}
-use Rattle.fr_graph.specs.Erasure.{erase, erase_step, erased_function, inner_low, Place, place_below, Everywhere, named_in, FitsIfNamed}
+use Rattle.fr_kernel.specs.Kernels.{Kernels, Kernel}
+use Rattle.fr_kernel.specs.Erasure.{erase, erase_step, erased_function, inner_low, Place, place_below, Everywhere, named_in, FitsIfNamed}
 use Rattle.fr_graph.specs.Walk.{Walk, place_all, low_body}
 use Rattle.fr_graph.specs.Sound.{HasParts, IsSoundAt, Sound}
 

@@ -2,6 +2,7 @@ mod Parts
 mod Works
 mod Calls
 mod Inside
+mod Means
 pub mod Values
 mod Cells
 pub mod Trees

@@ -7,7 +7,7 @@ use Rattle.fr_core.specs.declared.lowered.Slot.{Slot}
 use Rattle.fr_core.specs.declared.lowered.Slot.TheVariants as slot
 use Rattle.fr_meaning.specs.Words.{Seen, Env, found, part}
 use Rattle.fr_meaning.specs.Evaluation.{source_seen}
-use Rattle.fr_graph.specs.Kernels.{slot_seen}
+use Rattle.fr_kernel.specs.Kernels.{slot_seen}
 use Rattle.fr_graph.specs.Graph.{Part, steady, signal, Kind, Graph, part_value, part_values}
 use Rattle.fr_graph.specs.Walk.{Plan, is_steady, all_steady, steady_value, steady_values, variable_part, slot_part, slot_parts}
 use Rattle.fr_graph.specs.Wired.{IsSource, SlotsStand}

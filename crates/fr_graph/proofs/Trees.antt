@@ -24,8 +24,8 @@ use Rattle.fr_meaning.specs.Cells.{Cell, child, with_cell, under_key, keeps_datu
 use Rattle.fr_meaning.specs.States.{StateForm, of_operator, of_handler, of_feedback, cell_kind, fed, no_call, state_now, early_value, beside, state_next, datum_next, payload_next}
 use Rattle.fr_meaning.specs.Evaluation.{World, world_of, Ev, Parts, parts, chosen_by, switch_done, call_done, body_for, handler, form_cell, behind_cell, layer, eval_to}
 use Rattle.fr_meaning.proofs.Levels.{evaluates}
-use Rattle.fr_graph.specs.Kernels.{Kernels, slot_seen}
-use Rattle.fr_graph.specs.Erasure.{erase, erase_step, kernel_expr}
+use Rattle.fr_kernel.specs.Kernels.{Kernels, slot_seen}
+use Rattle.fr_kernel.specs.Erasure.{erase, erase_step, kernel_expr}
 use Rattle.fr_graph.specs.Graph.{Part, steady, signal, Work, operates, handles, loops, runs, feeds, Kind, works, watch, result, Graph, part_value, part_values, kernel_call, work_line, is_plain, is_late}
 use Rattle.fr_graph.specs.Walk.{Plan, first, rest, Walk, Placed, AllPlaced, place_all, place_call, variable_part, slot_parts, low_body, place}
 use Rattle.fr_graph.specs.Wired.{IsNext, Unless, WorkStands, inputs_of, later_of, AllStand, Chosen, SwitchStands, CallStands, ShapeStands, Wired, EraStands}

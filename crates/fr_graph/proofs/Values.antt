@@ -25,8 +25,8 @@ use Rattle.fr_meaning.specs.Cells.{Cell, child, under_key}
 use Rattle.fr_meaning.specs.States.{of_operator, of_handler, of_feedback, fed, no_call, state_now, beside, state_next}
 use Rattle.fr_meaning.specs.Evaluation.{World, world_of, Ev, parts, source_seen, chosen_by, switch_done, call_done, body_for, handler, body_with, rounds, form_cell, behind_cell, layer, eval_to}
 use Rattle.fr_meaning.proofs.Levels.{evaluates}
-use Rattle.fr_graph.specs.Kernels.{Kernels, Kernel, slot_seen}
-use Rattle.fr_graph.specs.Erasure.{erase, erase_step, erased_function, kernel_expr, expr_in, Fits}
+use Rattle.fr_kernel.specs.Kernels.{Kernels, Kernel, slot_seen}
+use Rattle.fr_kernel.specs.Erasure.{erase, erase_step, erased_function, kernel_expr, expr_in, Fits}
 use Rattle.fr_graph.specs.Graph.{Part, steady, signal, Work, operates, handles, loops, runs, feeds, Kind, source, works, watch, result, Graph, part_value, part_values, kernel_run, kernel_call, work_line, is_plain}
 use Rattle.fr_graph.specs.Walk.{Plan, first, rest, Walk, Placed, AllPlaced, place_all, place_switch, place_chosen, place_call, slot_parts, variable_part, low_body, place_shape, place}
 use Rattle.fr_graph.specs.Wired.{IsNext, AreNext, Unless, WorkStands, IsSource, SlotsStand, AllStand, Chosen, SwitchStands, CallStands, ShapeStands, Wired, EraStands}

@@ -8,7 +8,7 @@ use Rattle.fr_core.specs.declared.core_form.Operator.TheVariants as operator
 use Rattle.fr_meaning.specs.Words.{Seen, occurs, part}
 use Rattle.fr_meaning.specs.Cells.{Cell}
 use Rattle.fr_meaning.specs.States.{beside, base_of, plain_or_bad, occurrence, state_next, of_operator}
-use Rattle.fr_graph.specs.Kernels.{Kernels}
+use Rattle.fr_kernel.specs.Kernels.{Kernels}
 use Rattle.fr_graph.specs.Graph.{Part, steady, signal, Work, operates, handles, loops, runs, feeds, Kind, works, Graph, part_value, part_values, work_line, is_plain}
 use Rattle.fr_graph.specs.Walk.{Plan, first, rest, by_value, by_next, all_steady, steady_values, place_work}
 use Rattle.fr_graph.specs.Wired.{IsNext, inputs_of, later_of, Unless, WorkStands}

@@ -14,9 +14,9 @@ use Rattle.fr_meaning.specs.Words.{Seen, Env, Done, part}
 use Rattle.fr_meaning.specs.Cells.{Cell}
 use Rattle.fr_meaning.specs.States.{Line, gives, Call, of_operator, of_handler, fed, no_call, state_now}
 use Rattle.fr_meaning.specs.Evaluation.{World, Turns, all_turns, rounds, eval_to}
-use Rattle.fr_graph.specs.Kernels.{Kernels, Kernel, world_at}
-use Rattle.fr_graph.specs.Slots.{outer_of, read_by}
-use Rattle.fr_graph.specs.Numbers.{Scheme, numbered}
+use Rattle.fr_kernel.specs.Kernels.{Kernels, Kernel, world_at}
+use Rattle.fr_kernel.specs.Placed.{scheme_for}
+use Rattle.fr_kernel.specs.Numbers.{numbered}
 
 -- what stands for an expression: a value that never changes, or the value of a node
 pub data Part : Type 0 where
@@ -59,14 +59,10 @@ part_value g (signal m) = g.value m
 abbrev pub part_values : Graph → List Part → List Seen
 part_values g ps = map (part_value g) ps
 
--- what the slots of a kernel's code stand for
-abbrev pub scheme_in : Kernel → Scheme
-scheme_in k = record { first = k.first; params = k.params; outer = outer_of k.first k.expr; sources = read_by k.expr }
-
 -- a kernel that may not be there, over the values of its slots and of its parameters
 abbrev pub run_of : Kernels → ℕ → Option Kernel → List Seen → List Seen → Done
 run_of t n None slots args = record { value = Err Deep; kept = kept.Nothing; cost = 0; first = Some ([], Deep) }
-run_of t n (Some k) slots args = eval_to n (world_at t []) (numbered (scheme_in k) k.expr) (slots ++ args) kept.Nothing
+run_of t n (Some k) slots args = eval_to n (world_at t []) (numbered (scheme_for k.first k.params k.expr) k.expr) (slots ++ args) kept.Nothing
 
 -- the kernel of a number, on so many levels
 abbrev pub kernel_run : Kernels → ℕ → ℕ → List Seen → List Seen → Done

@@ -9,7 +9,7 @@ use Rattle.fr_core.specs.declared.lowered.Low.{Low}
 use Rattle.fr_meaning.specs.Words.{Seen, Env, datum_in, event_of, test_of}
 use Rattle.fr_meaning.specs.Cells.{Cell}
 use Rattle.fr_meaning.specs.Evaluation.{source_seen}
-use Rattle.fr_graph.specs.Kernels.{Kernels}
+use Rattle.fr_kernel.specs.Kernels.{Kernels}
 use Rattle.fr_graph.specs.Graph.{Part, steady, signal, Work, operates, feeds, Kind, source, works, watch, result, Graph, part_value, part_values, work_line, is_late}
 use Rattle.fr_graph.specs.Walk.{Plan}
 use Rattle.fr_graph.specs.Wired.{Chosen, EraStands}

@@ -1,7 +1,3 @@
-pub mod Slots
-pub mod Kernels
-pub mod Numbers
-pub mod Erasure
 pub mod Graph
 pub mod Walk
 pub mod Wired

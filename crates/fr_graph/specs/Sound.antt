@@ -11,9 +11,9 @@ use Rattle.fr_core.specs.declared.lowered.Low.{Low, out-Low}
 use Rattle.fr_core.specs.declared.lowered.Low.TheOpen.{Low-F}
 use Rattle.fr_core.specs.declared.lowered.LowFunction.{LowFunction}
 use Rattle.fr_core.specs.declared.program.Program.{Program}
-use Rattle.fr_graph.specs.Kernels.{Kernels, Kernel, slot_seen}
-use Rattle.fr_graph.specs.Slots.{slots_of}
-use Rattle.fr_graph.specs.Erasure.{Place, Everywhere, FitsPlace, erased_function}
+use Rattle.fr_kernel.specs.Kernels.{Kernels, Kernel, slot_seen}
+use Rattle.fr_kernel.specs.Slots.{slots_of}
+use Rattle.fr_kernel.specs.Erasure.{Place, Everywhere, FitsPlace, erased_function}
 use Rattle.fr_graph.specs.Walk.{Plan}
 
 -- an operator, a handler and a loop have their number of parts

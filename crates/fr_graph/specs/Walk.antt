@@ -9,7 +9,7 @@ use Rattle.fr_core.specs.declared.lowered.LowFunction.{LowFunction}
 use Rattle.fr_core.specs.declared.lowered.Slot.{Slot}
 use Rattle.fr_core.specs.declared.lowered.Slot.TheVariants as slot
 use Rattle.fr_meaning.specs.Words.{Seen, plain, test_of}
-use Rattle.fr_graph.specs.Kernels.{Kernels}
+use Rattle.fr_kernel.specs.Kernels.{Kernels}
 use Rattle.fr_graph.specs.Graph.{Part, steady, signal, Work, operates, handles, loops, runs, feeds, work_line, is_plain}
 
 -- what every walk of a lowered program goes by: its functions, its kernels, and the nodes of its sources

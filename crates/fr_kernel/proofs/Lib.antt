@@ -1,6 +1,11 @@
 mod Runs
-mod Numbers
+pub mod Numbers
 mod Copies
+pub mod InOrder
+mod Gathering
+mod Restoring
+pub mod Standing
+mod Turning
 mod Tables
 mod Operands
 mod Purity

@@ -33,7 +33,7 @@ both_true true true h = (refl, refl)
 both_true true false h = cc
 both_true false b h = cc
 
-every_both : (P : ℕ → Type 0) (ms ns : List ℕ) → Every P (ms ++ ns) → Every P ms × Every P ns
+pub every_both : (P : ℕ → Type 0) (ms ns : List ℕ) → Every P (ms ++ ns) → Every P ms × Every P ns
 every_both P [] ns h = (tt, h)
 every_both P (m ∷ ms) ns h = let t = every_both P ms ns h.1 in ((h.0, t.0), t.1)
 
@@ -58,13 +58,13 @@ names_none s = by_parts (NamesNone s) (λ e h closed.
 
 -- what is told beside what is kept
 
-abbrev bare : Done → Done
+abbrev pub bare : Done → Done
 bare d = record { value = d.value; kept = kept.Nothing; cost = d.cost; first = d.first }
 
-abbrev bare_parts : Parts → Parts
+abbrev pub bare_parts : Parts → Parts
 bare_parts ps = record { values = ps.values; kepts = []; cost = ps.cost; first = ps.first }
 
-bare_agree : (a b : Done) → Agree a b → bare a ≡ bare b
+pub bare_agree : (a b : Done) → Agree a b → bare a ≡ bare b
 bare_agree a b h = rw (h.value, h.cost, h.first) refl
 
 operator_agree : (o : Operator) → is_prim o ≡ true → (c c' : Option Cell) (ps ps' : Parts) → bare_parts ps ≡ bare_parts ps'
@@ -106,12 +106,12 @@ numbered-opens s e = ap out-Core (fold_out-Core Core (number_step s) e) ∙ step
 
 -- a variable has one value at both
 
-get_front : {X : Type 0} (xs ys : List X) (i : ℕ) → i < length xs → slice_get (xs ++ ys) i ≡ slice_get xs i
+pub get_front : {X : Type 0} (xs ys : List X) (i : ℕ) → i < length xs → slice_get (xs ++ ys) i ≡ slice_get xs i
 get_front [] ys i h = absurd (omega (arith, h))
 get_front (x ∷ xs) ys zero h = refl
 get_front (x ∷ xs) ys (suc i) h = get_front xs ys i (omega (arith, h))
 
-get_behind : {X : Type 0} (xs ys : List X) (i j : ℕ) → i ≡ length xs + j → slice_get (xs ++ ys) i ≡ slice_get ys j
+pub get_behind : {X : Type 0} (xs ys : List X) (i j : ℕ) → i ≡ length xs + j → slice_get (xs ++ ys) i ≡ slice_get ys j
 get_behind [] ys i j h = ap (slice_get ys) (omega (arith, h))
 get_behind (x ∷ xs) ys zero j h = absurd (omega (arith, h))
 get_behind (x ∷ xs) ys (suc i) j h = get_behind xs ys i j (omega (arith, h))
@@ -126,7 +126,7 @@ get_past [] i = inr refl
 get_past (x ∷ xs) zero = inl (omega arith)
 get_past (x ∷ xs) (suc i) = elim (get_past xs i) [ inl h ↦ inl (omega (arith, h)) | inr e ↦ inr e ]
 
-below_or : (a b : ℕ) → (a < b) ⊎ (b ≤ a)
+pub below_or : (a b : ℕ) → (a < b) ⊎ (b ≤ a)
 below_or a zero = inr (omega arith)
 below_or zero (suc b) = inl (omega arith)
 below_or (suc a) (suc b) = elim (below_or a b) [ inl h ↦ inl (omega (arith, h)) | inr h ↦ inr (omega (arith, h)) ]

@@ -2,7 +2,6 @@
 use Rattle.std.proofs.Common.{◌≡◌, ◌<◌, ℕ, zero, suc, Bool, true, ◌&&◌, if◌then◌else◌, List, [], ◌∷◌, ◌++◌, map, length, get_or, slice_get, refl, sym, ap, subst, ◌∙◌, arith, Some, None}
 use Rattle.std.proofs.lemmas.Bool.{false≢true}
 use Rattle.std.proofs.lemmas.List.{length-map}
-use Rattle.std.proofs.lemmas.Option.{get_or_from_slice_get}
 use Rattle.fr_value.specs.declared.ids.FunId.{FunId}
 use Rattle.fr_core.specs.Shapes.{outer, parts_in}
 use Rattle.fr_core.specs.Classes.{all_pure, is_prim, pure_itself, judge, FunctionSet, takes, calls_of, FitsPure}
@@ -17,11 +16,10 @@ use Rattle.fr_core.proofs.Folds.{judge-opens, Each, by_parts}
 use Rattle.fr_core.proofs.Parts.{parts_in-map}
 use Rattle.fr_meaning.specs.Evaluation.{body_for}
 use Rattle.fr_kernel.specs.declared.table.Kern.{Kern}
-use Rattle.fr_kernel.specs.declared.table.KernTable.{KernTable}
 use Rattle.fr_kernel.specs.Numbers.{Scheme, numbered}
 use Rattle.fr_kernel.specs.Placed.{scheme_of}
 use Rattle.fr_kernel.specs.Purity.{IsPureOver, ArePureOver, IsPureCall}
-use Rattle.fr_kernel.specs.Tables.{kern_of, HasPure}
+use Rattle.fr_kernel.specs.Tables.{expr_of, IsKernel}
 use Rattle.fr_kernel.proofs.Numbers.{both_true, number_layer, numbered-opens}
 
 each_pure : (fs : List Function) (p : Program) (set : FunctionSet) → FitsPure p set → p.functions ≡ fs → (es : List Core) → all_pure (map (judge (calls_of p set)) es) ≡ true → ArePureOver fs es
@@ -133,12 +131,9 @@ module _ (calls : ℕ → ℕ → Bool) (s : Scheme) where
       let t = both_true (pure_itself calls l) (all_pure (map (judge calls) (parts_in l))) (ap (λ j. j.pure) (sym (judge-opens calls e)) ∙ pure) in
       ap (λ j. j.pure) (judge-opens calls (numbered s e)) ∙ rw (numbered-opens s e, itself_stays l t.0, layer_parts l) (parts_stay (parts_in l) h t.1))
 
-pub kern_pure : (t : KernTable) (id : ℕ) (kernels : List Kern) (other : Kern) (fs : List Function) → fs ≡ t.functions → kernels ≡ t.kernels → HasPure t id → IsPureOver fs (get_or kernels id other).code
-kern_pure t id kernels other fs same all h =
-    let p = h.program in
-    let is : get_or kernels id other ≡ kern_of h.names h.expr = ap (λ ks. get_or ks id other) all ∙ get_or_from_slice_get t.kernels id (kern_of h.names h.expr) other h.is.kernel in
-    subst (λ (q : Kern). IsPureOver fs q.code) (sym is) (record {
-      program = p;
-      functions = sym (same ∙ h.is.functions);
-      pure = record { set = h.is.pure.set; fits = h.is.pure.fits; pure = stays (calls_of p h.is.pure.set) (scheme_of h.names) h.expr h.is.pure.pure };
-    })
+pub code_pure : (fs : List Function) (k : Kern) → IsKernel fs k → IsPureOver fs k.code
+code_pure fs k h = subst (IsPureOver fs) (sym h.code) (record {
+  program = h.pure.program;
+  functions = h.pure.functions;
+  pure = record { set = h.pure.pure.set; fits = h.pure.pure.fits; pure = stays (calls_of h.pure.program h.pure.pure.set) (scheme_of k.names) (expr_of k) h.pure.pure.pure };
+})

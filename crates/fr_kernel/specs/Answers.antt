@@ -1,5 +1,5 @@
 -- What a run tells of an evaluation.
-use Rattle.std.specs.Prelude.{◌≡◌, ℕ, ℤ, ◌+◌, ◌<◌, Bool, true, false, List, [], ◌∷◌, ◌++◌, take, drop, Option, Some, None, Result, Ok, Err}
+use Rattle.std.specs.Prelude.{◌≡◌, ℕ, ℤ, ◌+◌, ◌<◌, Bool, true, false, List, [], ◌∷◌, ◌++◌, map, take, drop, Option, Some, None, Result, Ok, Err}
 use Rattle.fr_value.specs.declared.now.Now.{Now}
 use Rattle.fr_value.specs.declared.now.Bad.{Bad}
 use Rattle.fr_value.specs.declared.now.Bad.TheVariants.{Deep}
@@ -140,6 +140,10 @@ AppliesHeld k from old new v = Answers k (record old { held = take from old.held
 abbrev pub SpendsOr : Bool → Machine → Machine → Type 0
 SpendsOr true old new = (new ≡ record old { fuel = new.fuel }) × (new.fuel + 1 ≡ old.fuel)
 SpendsOr false old new = (new.stop ≡ stop.Fuel) × (old.fuel ≡ 0)
+
+-- the values of a kernel's slots, where it is run over these: those of its parameters come behind the others
+abbrev pub slot_values : ℕ → List Now → Env
+slot_values params inputs = map (λ n. Ok n) (drop params inputs) ++ map (λ n. Ok n) (take params inputs)
 
 -- a run begins with so much fuel over these slots
 pub record Begins (m : Machine) (left : ℕ) (vs : List Seen) : Type 0 where

@@ -1,5 +1,9 @@
 pub mod Answers
+pub mod Erasure
+pub mod Kernels
+pub mod Loops
 pub mod Numbers
 pub mod Placed
 pub mod Purity
+pub mod Slots
 pub mod Tables

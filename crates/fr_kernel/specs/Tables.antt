@@ -1,27 +1,29 @@
--- The kernels of a program.
-use Rattle.std.specs.Prelude.{◌≡◌, ℕ, slice_get, Some}
-use Rattle.fr_core.specs.Classes.{IsPureExpr}
+-- What the code has of the kernels of a program.
+use Rattle.std.specs.Prelude.{◌≡◌, List, [], ◌∷◌}
 use Rattle.fr_core.specs.declared.core_form.Core.{Core}
-use Rattle.fr_core.specs.declared.program.Program.{Program}
-use Rattle.fr_kernel.specs.declared.names.Names.{Names}
+use Rattle.fr_core.specs.declared.program.Function.{Function}
 use Rattle.fr_kernel.specs.declared.table.Kern.{Kern}
-use Rattle.fr_kernel.specs.declared.table.KernTable.{KernTable}
-use Rattle.fr_kernel.specs.Numbers.{numbered}
-use Rattle.fr_kernel.specs.Placed.{scheme_of}
+use Rattle.fr_kernel.specs.Kernels.{Kernel}
+use Rattle.fr_kernel.specs.Numbers.{numbered, restored}
+use Rattle.fr_kernel.specs.Placed.{scheme_of, scheme_for}
+use Rattle.fr_kernel.specs.Purity.{IsPureOver}
+use Rattle.fr_kernel.specs.Slots.{slots_for}
 
--- the kernel of an expression over these slots
-abbrev pub kern_of : Names → Core → Kern
-kern_of n e = record { code = numbered (scheme_of n) e; names = n }
+-- the expression that a kernel was made from
+abbrev pub expr_of : Kern → Core
+expr_of k = restored (scheme_of k.names) k.code
 
--- the table has this program's functions, and its kernel of this number is that of this pure expression over these slots
-pub record IsKernel (t : KernTable) (id : ℕ) (p : Program) (n : Names) (e : Core) : Type 0 where
-  pub functions : t.functions ≡ p.functions
-  pub kernel : slice_get t.kernels id ≡ Some (kern_of n e)
-  pub pure : IsPureExpr p e
+-- a kernel as contracts see it
+abbrev pub kernel_of : Kern → Kernel
+kernel_of k = record { expr = expr_of k; first = k.names.first; params = k.names.params; slots = slots_for k.names.outer k.names.sources }
 
--- the kernel of this number is that of a pure expression of a program with the table's functions
-pub record HasPure (t : KernTable) (id : ℕ) : Type 0 where
-  pub program : Program
-  pub names : Names
-  pub expr : Core
-  pub is : IsKernel t id program names expr
+-- a kernel is that of a pure expression: its code is that expression over its slots, which are those that the expression needs
+pub record IsKernel (fs : List Function) (k : Kern) : Type 0 where
+  pub code : k.code ≡ numbered (scheme_of k.names) (expr_of k)
+  pub names : scheme_of k.names ≡ scheme_for k.names.first k.names.params (expr_of k)
+  pub pure : IsPureOver fs (expr_of k)
+
+-- each of these is
+abbrev pub AreKernels : List Function → List Kern → Type 0
+AreKernels fs [] = Unit {0}
+AreKernels fs (k ∷ ks) = IsKernel fs k × AreKernels fs ks

@@ -4,15 +4,16 @@
 mod fuel;
 mod integers;
 mod laws;
+mod looping;
 mod machine;
 mod names;
+mod naming;
 mod placing;
 mod running;
 mod table;
 mod walking;
 
 pub use fuel::{Fuel, KernStop};
-pub use laws::numbering_keeps_the_meaning;
+pub use laws::{equal_inputs_tell_the_same, numbering_keeps_the_meaning};
 pub use machine::Machine;
-pub use names::Names;
-pub use table::{Kern, KernTable, run_kern};
+pub use table::{KernTable, run_fold, run_kern, run_repeat};

@@ -55,24 +55,31 @@ impl Machine {
     }
 }
 
-/// Makes these values all that is on a stack. It fails only where there is no memory.
-fn refill(stack: &mut Items<Seen>, values: &[Now]) -> Result<(), AllocError>
-    ensures { OnOk result (stack.new ≡ map (λ n. Ok n) values.now) }
+/// Puts these values behind those of a stack. It fails only where there is no memory.
+pub(crate) fn share_behind(stack: &mut Items<Seen>, values: &[Now]) -> Result<(), AllocError>
+    ensures { OnOk result (stack.new ≡ stack.old ++ map (λ n. Ok n) values.now) }
 {
-    cut(stack, 0);
     for value in values {
         stack.push(Ok(value.share()?))?;
     }
     Ok(())
 }
 
-/// Begins a run with so much fuel, where these values are the slots. It fails only where there is no memory.
-pub(crate) fn begin(m: &mut Machine, inputs: &[Now], fuel: u64) -> Result<(), AllocError>
-    ensures { OnOk result (Begins m.new fuel (map (λ n. Ok n) inputs.now)) }
+/// Begins a run with so much fuel, where these values are the slots, first the former. It fails only where there is no
+/// memory.
+pub(crate) fn begin(
+    m: &mut Machine,
+    first: &[Now],
+    others: &[Now],
+    fuel: u64,
+) -> Result<(), AllocError>
+    ensures { OnOk result (Begins m.new fuel (map (λ n. Ok n) first.now ++ map (λ n. Ok n) others.now)) }
 {
     m.fuel = fuel;
     cut(&mut m.held, 0);
-    refill(&mut m.slots, inputs)
+    cut(&mut m.slots, 0);
+    share_behind(&mut m.slots, first)?;
+    share_behind(&mut m.slots, others)
 }
 
 /// No answer, for this reason.

@@ -1,11 +1,13 @@
-ghost use Rattle.std.specs.Prelude.{◌≡◌, ◌-◌, Ok, map};
+ghost use Rattle.std.specs.Prelude.{◌≡◌, ◌≤◌, ◌-◌, length};
 ghost use Rattle.fr_core.specs.declared.kept.Kept.{Kept};
+ghost use Rattle.fr_meaning.specs.Words.{Done as Evaluated};
 ghost use Rattle.fr_meaning.specs.Evaluation.{eval};
+ghost use Rattle.fr_kernel.specs.declared.machine.Machine.{Machine as AnyMachine};
 ghost use Rattle.fr_kernel.specs.Purity.{IsPureOver};
-ghost use Rattle.fr_kernel.specs.Answers.{world, scope, Ran};
+ghost use Rattle.fr_kernel.specs.Answers.{world, scope, slot_values, Tells, Ran};
 
 use crate::fuel::{Fuel, KernStop};
-use crate::machine::{Machine, begin, value_of};
+use crate::machine::{Kind, Machine, begin, value_of};
 use crate::walking::walk;
 use fr_core::{Core, Function};
 use fr_value::Now;
@@ -18,7 +20,8 @@ fn levels_from(nest: u32) -> u32
     2001u32.saturating_sub(nest)
 }
 
-/// Evaluates an expression at a nest, where its variables are these inputs and it names no source.
+/// Evaluates an expression at a nest, where these inputs are its variables, the first `params` of them behind the
+/// others, and it names no source.
 ///
 /// Ok gives its value, where the evaluation has no error, and exactly its cost was spent. `Bad` has the kind of the
 /// evaluation's first error, and `Fuel` comes only where its cost is above what was left; after either, and where there
@@ -27,15 +30,18 @@ pub(crate) fn run(
     alloc: Global,
     functions: &[Function],
     expr: &Core,
+    params: usize,
     inputs: &[Now],
     nest: u32,
     machine: &mut Machine,
     fuel: &mut Fuel,
 ) -> Result<Now, KernStop>
-    requires { IsPureOver functions.now expr.now }
-    ensures { (k : Kept) → Ran result fuel.old.left fuel.new.left (eval (world functions.now) nest expr.now (map (λ n. Ok n) inputs.now) k) }
+    requires inputs { params ≤ length inputs.now }
+    requires pure { IsPureOver functions.now expr.now }
+    ensures { (k : Kept) → Ran result fuel.old.left fuel.new.left (eval (world functions.now) nest expr.now (slot_values params inputs.now) k) }
 {
-    match begin(machine, inputs, fuel.left) {
+    let (first, others) = inputs.split_at(params);
+    match begin(machine, others, first, fuel.left) {
         Err(e) => Err(KernStop::Memory(e)),
         Ok(()) => run_begun(alloc, functions, expr, nest, machine, fuel),
     }
@@ -54,6 +60,13 @@ fn run_begun(
     ensures { (k : Kept) → Ran result machine.old.fuel fuel.new.left (eval (world functions.now) nest expr.now (scope 0 machine.old) k) }
 {
     let kind = walk(alloc, functions, levels_from(nest), machine, 0, expr);
+    finish(machine, kind, fuel)
+}
+
+/// What a run gives that ended with an answer of this kind, and what is left of the fuel.
+pub(crate) fn finish(machine: &mut Machine, kind: Kind, fuel: &mut Fuel) -> Result<Now, KernStop>
+    ensures { (start : AnyMachine) (d : Evaluated) → Tells kind start machine.old d → Ran result start.fuel fuel.new.left d }
+{
     fuel.left = machine.fuel;
     match value_of(machine, kind) {
         Some(Ok(now)) => Ok(now),

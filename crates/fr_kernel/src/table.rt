@@ -1,39 +1,57 @@
-ghost use Rattle.std.specs.Prelude.{◌≡◌, ◌<◌, ◌++◌, ◌∷◌, [], IfOk, IfErr, Ok, ℕ, map, length, List};
-ghost use Rattle.fr_core.specs.Classes.{IsPureExpr};
-ghost use Rattle.fr_value.specs.declared.now.Now.{Now as Value_now};
-ghost use Rattle.fr_core.specs.declared.core_form.Core.{Core as Expr};
+ghost use Rattle.std.specs.Prelude.{◌≡◌, ◌+◌, ◌<◌, ◌++◌, ◌∷◌, [], IfOk, IfErr, Some, drop, length, slice_get, List};
+ghost use Rattle.fr_value.specs.declared.now.Now.{Now as AnyNow};
+ghost use Rattle.fr_core.specs.declared.core_form.Loop.TheVariants as loop;
 ghost use Rattle.fr_core.specs.declared.kept.Kept.{Kept};
-ghost use Rattle.fr_core.specs.declared.program.Program.{Program as AnyProgram};
 ghost use Rattle.fr_meaning.specs.Words.{Env};
-ghost use Rattle.fr_meaning.specs.Evaluation.{world_of, eval};
+ghost use Rattle.fr_meaning.specs.Evaluation.{eval};
 ghost use Rattle.fr_kernel.specs.Answers.{Ran};
-ghost use Rattle.fr_kernel.specs.Numbers.{Stand};
-ghost use Rattle.fr_kernel.specs.Placed.{scheme_of};
-ghost use Rattle.fr_kernel.specs.Tables.{kern_of, IsKernel, HasPure};
-ghost use Rattle.fr_kernel.specs.declared.names.Names.{Names as AnyNames};
+ghost use Rattle.fr_kernel.specs.Kernels.{Kernel, AreInputs, AreOthers, inputs_of, kernel_for, world_at};
+ghost use Rattle.fr_kernel.specs.Loops.{loop_at};
+ghost use Rattle.fr_kernel.specs.Purity.{IsPureOver};
+ghost use Rattle.fr_kernel.specs.Slots.{slots_of};
 
 use crate::fuel::{Fuel, KernStop};
+use crate::looping::run_loop;
 use crate::machine::Machine;
 use crate::names::Names;
 use crate::placing::place;
 use crate::running::run;
-use fr_core::{Core, Function, Program};
+use fr_core::{Core, Function, Loop, Program, Slot};
 use fr_value::{KernId, Now};
 use sqlite_items::Items;
 use std::alloc::{AllocError, Global};
+use std::marker::Model;
 
-/// A kernel: an expression whose variables are slots, and what the slots stand for.
+/// A kernel: an expression over slots, and what the slots stand for.
 #[derive(Drop)]
-pub struct Kern {
+pub(crate) struct Kern {
     pub(crate) code: Core,
     pub(crate) names: Names,
 }
 
 /// The kernels of a program, beside its functions.
+///
+/// Contracts see the functions, and of each kernel the expression that it was made from, the number of its first
+/// parameter, how many parameters it has, and what its other slots stand for. The expression is pure over the functions.
 #[derive(Drop)]
 pub struct KernTable {
-    pub(crate) functions: Items<Function>,
-    pub(crate) kernels: Items<Kern>,
+    functions: Items<Function>,
+    kernels: Items<Kern>,
+}
+
+impl Model for KernTable {
+    ghost use Rattle.std.specs.Prelude.{map};
+    ghost use Rattle.fr_kernel.specs.Kernels.{Kernels, kernels_code};
+
+    ghost Value = { Kernels };
+
+    ghost coded = { kernels_code };
+
+    ghost use Rattle.fr_kernel.specs.Tables.{kernel_of, AreKernels};
+
+    ghost view = { λ t. record { functions = t.functions; kernels = map kernel_of t.kernels } };
+
+    ghost invariant = { λ t. AreKernels t.functions t.kernels };
 }
 
 fn copy_function(alloc: Global, function: &Function) -> Result<Function, AllocError>
@@ -59,7 +77,7 @@ fn copy_functions(alloc: Global, functions: &[Function]) -> Result<Items<Functio
 impl KernTable {
     /// A table with a program's functions and no kernel. It fails only where there is no memory.
     pub fn new(alloc: Global, program: &Program) -> Result<KernTable, AllocError>
-        ensures { IfOk result (λ t. (t.functions ≡ program.now.functions) × (t.kernels ≡ [])) }
+        ensures { IfOk result (λ t. t ≡ record { functions = program.now.functions; kernels = [] }) }
     {
         Ok(KernTable {
             functions: copy_functions(alloc, program.functions.as_slice())?,
@@ -67,23 +85,36 @@ impl KernTable {
         })
     }
 
-    /// Puts the kernel of an expression over these slots behind the others, and gives its number. Where there is no
-    /// memory the table is unchanged. The kernel may be run if the expression is pure, and those before it as before.
-    pub fn add(&mut self, alloc: Global, expr: &Core, names: Names) -> Result<KernId, AllocError>
-        ensures added { IfOk result (λ id. (id.0 ≡ length self.old.kernels) × (self.new ≡ record self.old { kernels = self.old.kernels ++ kern_of names expr.now ∷ [] })) }
-        ensures pure { IfOk result (λ id. (p : AnyProgram) → self.old.functions ≡ p.functions → IsPureExpr p expr.now → HasPure self.new id.0) }
-        ensures others { IfOk result (λ id. (i : ℕ) → HasPure self.old i → HasPure self.new i) }
+    /// Puts the kernel of an expression behind the others. It gives its number, and what the slots behind its parameters
+    /// stand for.
+    ///
+    /// The expression is pure over the table's functions. The variables from `first` on, `params` of them, are the
+    /// parameters: they are the first slots, whether they are named or not. Behind them come the variables below `first`
+    /// that the expression names and then its sources, each once and in rising order. The variables that the expression
+    /// binds itself are numbered from `first` and `params` together on. Where there is no memory the table is unchanged.
+    pub fn add(
+        &mut self,
+        alloc: Global,
+        expr: &Core,
+        first: u32,
+        params: u32,
+    ) -> Result<(KernId, Items<Slot>), AllocError>
+        requires pure { IsPureOver self.old.functions expr.now }
+        ensures number { IfOk result (λ added. added.0.0 ≡ length self.old.kernels) }
+        ensures slots { IfOk result (λ added. added.1 ≡ slots_of first expr.now) }
+        ensures appended { IfOk result (λ added. self.new ≡ record self.old { kernels = self.old.kernels ++ kernel_for first params expr.now ∷ [] }) }
         ensures failed { IfErr result (λ e. self.new ≡ self.old) }
     {
+        let names = Names::of(alloc, expr, first, params)?;
+        let slots = names.slots(alloc)?;
         let code = place(alloc, Some(&names), u32::MAX, expr)?;
         let id = self.kernels.len() as u64;
         self.kernels.push(Kern { code, names })?;
-        Ok(KernId(id))
+        Ok((KernId(id), slots))
     }
 }
 
-/// Runs a kernel over the values of its slots, at a nest. It is that of a pure expression of a program with the table's
-/// functions.
+/// Runs a kernel at a nest, over the values of its parameters and then of its other slots.
 ///
 /// Ok gives the value of evaluating the kernel's expression at that nest, wherever the variables and sources that it
 /// names have these values and whatever was kept; nothing errs in that evaluation, and exactly its cost was spent. `Bad`
@@ -99,16 +130,75 @@ pub fn run_kern(
     fuel: &mut Fuel,
 ) -> Result<Now, KernStop>
     requires number { id.0 < length table.now.kernels }
-    requires pure { HasPure table.now id.0 }
-    ensures { (p : AnyProgram) (n : AnyNames) (e : Expr) (sources : List Value_now) (env : Env) → IsKernel table.now id.0 p n e → Stand (scheme_of n) e sources env (map (λ v. Ok v) inputs.now) → (k : Kept) → Ran result fuel.old.left fuel.new.left (eval (world_of p sources) nest e env k) }
+    requires inputs { (k : Kernel) → slice_get table.now.kernels id.0 ≡ Some k → length inputs.now ≡ inputs_of k }
+    ensures { (k : Kernel) (sources : List AnyNow) (env args : Env) → slice_get table.now.kernels id.0 ≡ Some k → AreInputs k sources env args inputs.now → (kept : Kept) → Ran result fuel.old.left fuel.new.left (eval (world_at table.now sources) nest k.expr (env ++ args) kept) }
 {
-    let functions = table.functions.as_slice();
-    let kernels = table.kernels.as_slice();
-    let at = id.0 as usize;
+    let kernel = &table.kernels.as_slice()[id.0 as usize];
     run(
         alloc,
-        functions,
-        &kernels[at].code,
+        table.functions.as_slice(),
+        &kernel.code,
+        kernel.names.params as usize,
+        inputs,
+        nest,
+        machine,
+        fuel,
+    )
+}
+
+/// Runs a `for/fold` whose body is a kernel with two parameters, the accumulator and the item, at the loop's nest.
+///
+/// The inputs are the first accumulator, the list, and then the values of the body's slots other than its parameters.
+/// Value, cost and refusals are those of evaluating the loop over these values, as of a kernel in `run_kern`.
+pub fn run_fold(
+    alloc: Global,
+    table: &KernTable,
+    body: KernId,
+    inputs: &[Now],
+    nest: u32,
+    machine: &mut Machine,
+    fuel: &mut Fuel,
+) -> Result<Now, KernStop>
+    requires number { body.0 < length table.now.kernels }
+    requires body { (k : Kernel) → slice_get table.now.kernels body.0 ≡ Some k → (k.params ≡ 2) × (length inputs.now ≡ 2 + length k.slots) }
+    ensures { (k : Kernel) (sources : List AnyNow) (env : Env) → slice_get table.now.kernels body.0 ≡ Some k → AreOthers k sources env (drop 2 inputs.now) → Ran result fuel.old.left fuel.new.left (loop_at (world_at table.now sources) nest loop.Fold k.expr env inputs.now) }
+{
+    let kernel = &table.kernels.as_slice()[body.0 as usize];
+    run_loop(
+        alloc,
+        table.functions.as_slice(),
+        Loop::Fold,
+        &kernel.code,
+        inputs,
+        nest,
+        machine,
+        fuel,
+    )
+}
+
+/// Runs a `repeat` whose body is a kernel with one parameter, the accumulator, at the loop's nest.
+///
+/// The inputs are the first accumulator, the count, and then the values of the body's slots other than its parameter.
+/// Value, cost and refusals are those of evaluating the loop over these values, as of a kernel in `run_kern`.
+pub fn run_repeat(
+    alloc: Global,
+    table: &KernTable,
+    body: KernId,
+    inputs: &[Now],
+    nest: u32,
+    machine: &mut Machine,
+    fuel: &mut Fuel,
+) -> Result<Now, KernStop>
+    requires number { body.0 < length table.now.kernels }
+    requires body { (k : Kernel) → slice_get table.now.kernels body.0 ≡ Some k → (k.params ≡ 1) × (length inputs.now ≡ 2 + length k.slots) }
+    ensures { (k : Kernel) (sources : List AnyNow) (env : Env) → slice_get table.now.kernels body.0 ≡ Some k → AreOthers k sources env (drop 2 inputs.now) → Ran result fuel.old.left fuel.new.left (loop_at (world_at table.now sources) nest loop.Repeat k.expr env inputs.now) }
+{
+    let kernel = &table.kernels.as_slice()[body.0 as usize];
+    run_loop(
+        alloc,
+        table.functions.as_slice(),
+        Loop::Repeat,
+        &kernel.code,
         inputs,
         nest,
         machine,

@@ -424,7 +424,7 @@ fn walk_loop(
 
 /// The turns of a loop over the values of its parts.
 #[cycle(walk)]
-fn walk_rounds(
+pub(crate) fn walk_rounds(
     alloc: Global,
     functions: &[Function],
     left: u32,

@@ -50,7 +50,7 @@ fn is_pure_call(program: &Program, marks: &[bool], function: FunId, arguments: u
 }
 
 /// Whether an expression itself has no state and is none of an event, and its call is pure where it is one.
-fn is_pure_itself(program: &Program, marks: &[bool], e: &Core) -> bool
+pub fn is_pure_itself(program: &Program, marks: &[bool], e: &Core) -> bool
     ensures { result ≡ pure_itself (calls_of program.now (set_of marks.now)) (out-Core e.now) }
 {
     match e {

@@ -9,4 +9,4 @@ mod naming;
 mod removal;
 
 pub use classification::{Classes, classify};
-pub use fitness::{is_fit, is_pure};
+pub use fitness::{is_fit, is_pure, is_pure_over_parts};

@@ -1,5 +1,5 @@
 use crate::told::Told;
-use crate::{data, names, programs, purity, scripts};
+use crate::{data, kernels, names, programs, purity, scripts};
 use std::alloc::Global;
 
 /// What is called on the text of a row.
@@ -33,6 +33,10 @@ pub(crate) enum Call {
     Classes,
     /// `is_pure` and `is_fit` of a shown expression behind some names.
     Fitness,
+    /// The kernel of a shown expression behind some names, at a nest with so much fuel.
+    Kernel(u32, u64),
+    /// The same of a loop over the kernel of its body.
+    Looped(u32, u64),
     /// The first error of a program over a script.
     Error(&'static str),
     /// The turns of a reader for a program that is fed three pieces.
@@ -56,6 +60,9 @@ fn tell(alloc: Global, out: &mut Told, call: Call, text: &[u8]) {
         }
         Call::Shown => programs::tell_behind(alloc, out, call, programs::NAMES, text),
         Call::Fitness => programs::tell_behind(alloc, out, call, purity::NAMES, text),
+        Call::Kernel(_, _) | Call::Looped(_, _) => {
+            programs::tell_behind(alloc, out, call, kernels::NAMES, text);
+        }
         Call::Core | Call::Classes | Call::Error(_) | Call::Turns(_, _, _) => {
             programs::tell_text(alloc, out, call, text);
         }

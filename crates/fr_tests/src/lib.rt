@@ -12,6 +12,8 @@ mod files;
 #[cfg(test)]
 mod graph;
 #[cfg(test)]
+mod kernels;
+#[cfg(test)]
 mod limits;
 #[cfg(test)]
 mod names;

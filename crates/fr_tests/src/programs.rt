@@ -2,6 +2,7 @@ ghost use Rattle.fr_core.specs.WellFormed.{IsWellFormed};
 
 use crate::calls::{Call, Row, wrong};
 use crate::errors::tell_error;
+use crate::kernels::tell_kernel;
 use crate::purity::{tell_classes, tell_fitness};
 use crate::scripts::tell_turns;
 use crate::told::Told;
@@ -45,6 +46,8 @@ fn tell_program(alloc: Global, out: &mut Told, call: Call, program: Program)
         }
         Call::Classes => tell_classes(alloc, out, &program),
         Call::Fitness => tell_fitness(alloc, out, &program),
+        Call::Kernel(nest, left) => tell_kernel(alloc, out, &program, false, nest, left),
+        Call::Looped(nest, left) => tell_kernel(alloc, out, &program, true, nest, left),
         Call::Shown => tell_shown(alloc, out, &program),
         _ => tell_core(alloc, out, &program),
     }

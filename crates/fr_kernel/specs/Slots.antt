@@ -32,9 +32,16 @@ outer_of first e = in_order (all_below first (variables e))
 abbrev pub read_by : Core → List ℕ
 read_by e = in_order (sources_of e)
 
--- slots that stand for these variables and then these sources
+-- a slot for a variable, and one for a source
+abbrev pub slot_of_variable : ℕ → Slot
+slot_of_variable x = slot.Var (record { 0 = x })
+
+abbrev pub slot_of_source : ℕ → Slot
+slot_of_source x = slot.Source (record { 0 = x })
+
+-- slots for these variables and then these sources
 abbrev pub slots_for : List ℕ → List ℕ → List Slot
-slots_for outer sources = map (λ x. slot.Var (record { 0 = x })) outer ++ map (λ x. slot.Source (record { 0 = x })) sources
+slots_for outer sources = map slot_of_variable outer ++ map slot_of_source sources
 
 -- what an expression reads from its place, where `first` variables are around it: the variables below `first` that it names and then its sources, each once and in rising order
 abbrev pub slots_of : ℕ → Core → List Slot

@@ -11,7 +11,7 @@ use Rattle.fr_core.specs.contracts.lowered.Slot as slot_row
 use Rattle.fr_core.specs.contracts.program.Function as function_row
 use Rattle.fr_meaning.specs.Words.{Seen, Env, part}
 use Rattle.fr_meaning.specs.Evaluation.{World, source_seen}
-use Rattle.fr_graph.specs.Slots.{slots_of}
+use Rattle.fr_kernel.specs.Slots.{slots_of}
 
 -- a kernel: the expression that it was made from, the number of its first parameter, how many parameters it has, and what the slots behind the parameters stand for
 pub record Kernel : Type 0 where

@@ -18,7 +18,7 @@ use Rattle.fr_core.specs.declared.program.Item.TheVariants as item
 use Rattle.fr_core.specs.declared.program.Program.{Program}
 use Rattle.fr_core.specs.Classes.{IsPureExpr}
 use Rattle.fr_core.specs.Shapes.{outer, handler_binds, loop_binds}
-use Rattle.fr_graph.specs.Kernels.{Kernel}
+use Rattle.fr_kernel.specs.Kernels.{Kernel}
 
 -- the expression of a kernel; `#f` stands where there is none
 abbrev pub expr_in : Option Kernel → Core

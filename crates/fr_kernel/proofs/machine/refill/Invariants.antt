@@ -1,5 +1,0 @@
-use Rattle.std.proofs.Common.{◌≡◌, map, take, Ok}
-use Rattle.fr_kernel.proofs.machine.refill.Given as goal
-
-abbrev pub invariant-loop-value : goal.invariant-loop-value
-invariant-loop-value l = l.stack ≡ map (λ n. Ok n) (take l.value-index l.values)

@@ -1,0 +1,10 @@
+pub mod Erasing
+pub mod Places
+pub mod Ranges
+pub mod Parts
+pub mod Rows
+pub mod Joining
+pub mod Steps
+pub mod Shapes
+pub mod Added
+pub mod Whole

@@ -1,0 +1,12 @@
+use Rattle.std.proofs.Common.{None}
+use Rattle.fr_kernel.specs.Erasure.{AllFit, CollapsesNothing}
+use Rattle.fr_lower.specs.Tops.{IsLowered}
+use Rattle.fr_lower.proofs.Added.{if_ok}
+use Rattle.fr_lower.proofs.Whole.{all_fit, collapses_nothing}
+use Rattle.fr_lower.proofs.lowering.plain.Goals as goal
+
+pub returns-clause-kernels : goal.returns-clause-kernels
+returns-clause-kernels c = if_ok (λ r. IsLowered c.args.program.now None r.0 r.1) (λ r. AllFit r.1.kernels r.0) c.lowered_with.result (λ r h. all_fit c.args.program.now None r.0 r.1 h) c.lowered_with.ensures
+
+pub returns-clause-regions : goal.returns-clause-regions
+returns-clause-regions c = if_ok (λ r. IsLowered c.args.program.now None r.0 r.1) (λ r. CollapsesNothing r.0) c.lowered_with.result (λ r h. collapses_nothing c.args.program.now r.0 r.1 h) c.lowered_with.ensures
