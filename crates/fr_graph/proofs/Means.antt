@@ -11,7 +11,7 @@ use Rattle.fr_kernel.specs.Kernels.{Kernel, slot_seen, world_at}
 use Rattle.fr_kernel.specs.Numbers.{numbered}
 use Rattle.fr_kernel.specs.Placed.{scheme_for}
 use Rattle.fr_kernel.proofs.Numbers.{numbered_same}
-use Rattle.fr_kernel.proofs.Standing.{named_for, stands, slots_seen}
+use Rattle.fr_kernel.proofs.Standing.{named_for, values_of, stands, slots_seen}
 use Rattle.fr_graph.specs.Graph.{kernel_run, run_of}
 use Rattle.fr_graph.specs.Walk.{Plan}
 use Rattle.fr_graph.specs.Sound.{IsPlanOf, KernelsMean}
@@ -21,11 +21,11 @@ kernels_mean pr p sources plan n i k few there vs args near own tree =
     let s = scheme_for k.first k.params k.expr in
     let levels : 2001 - (2001 - n) ≡ n = omega (arith, few) in
     let stand = stands s k.expr sources vs args near own (named_for k.first k.params k.expr) in
-    let same = (numbered_same pr s k.expr sources (vs ++ args) _ (plan.pure i k there) stand (2001 - n) tree kept.Nothing).value in
+    let same = (numbered_same pr s k.expr sources (vs ++ args) (values_of s sources vs args) (plan.pure i k there) stand (2001 - n) tree kept.Nothing).value in
     let slots : map (slot_seen sources vs) k.slots ≡ _ = ap (map (slot_seen sources vs)) (plan.slots i k there) ∙ slots_seen s sources vs in
     ap (λ o. (run_of p.table n o (map (slot_seen sources vs) k.slots) args).value) there
     ∙ ap (λ us. (eval_to n (world_at p.table []) (numbered s k.expr) (us ++ args) kept.Nothing).value) slots
-    ∙ ap (λ fs. (eval_to n (world fs) (numbered s k.expr) _ kept.Nothing).value) plan.table
-    ∙ ap (λ m. (eval_to m (world pr.functions) (numbered s k.expr) _ kept.Nothing).value) (sym levels)
+    ∙ ap (λ fs. (eval_to n (world fs) (numbered s k.expr) (values_of s sources vs args) kept.Nothing).value) plan.table
+    ∙ ap (λ m. (eval_to m (world pr.functions) (numbered s k.expr) (values_of s sources vs args) kept.Nothing).value) (sym levels)
     ∙ sym same
     ∙ ap (λ m. (eval_to m (world_of pr sources) k.expr (vs ++ args) tree).value) levels
