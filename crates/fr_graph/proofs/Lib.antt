@@ -3,7 +3,8 @@ mod Works
 mod Calls
 mod Inside
 mod Means
-pub mod Values
+mod Values
 mod Cells
-pub mod Trees
-pub mod Carry
+mod Trees
+mod Carry
+pub mod Items

@@ -44,6 +44,9 @@ at_seam : (pre : List Kept) (k : Kept) (ks : List Kept) → unwrap_or (slice_get
 at_seam [] k ks = refl
 at_seam (p ∷ pre) k ks = at_seam pre k ks
 
+pub next_child : (pre : List Kept) (k : Kept) (ks : List Kept) (i : ℕ) → length pre ≡ i → child (kept.Group (pre ++ k ∷ ks)) i ≡ k
+next_child pre k ks i len = child_group (pre ++ k ∷ ks) i ∙ ap (λ j. unwrap_or (slice_get (pre ++ k ∷ ks) j) kept.Nothing) (sym len) ∙ at_seam pre k ks
+
 parts_kepts : (ev : Ev) (env : Env) (k : Kept) (i : ℕ) (es : List Core) → length (parts ev env k i es).kepts ≡ length es
 parts_kepts ev env k i [] = refl
 parts_kepts ev env k i (e ∷ es) = ap suc (parts_kepts ev env k (i + 1) es)

@@ -5,3 +5,4 @@ pub mod Keeps
 pub mod Known
 pub mod Sound
 pub mod Goes
+pub mod Items
