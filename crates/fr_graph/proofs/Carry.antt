@@ -26,7 +26,7 @@ use Rattle.fr_graph.proofs.Works.{stands_next}
 
 -- nothing is kept in an empty tree
 
-child_none : (i : ℕ) → child kept.Nothing i ≡ kept.Nothing
+pub child_none : (i : ℕ) → child kept.Nothing i ≡ kept.Nothing
 unfolding child
 child_none i = ap (λ l. child_at l i) outs-Nothing
 
@@ -71,11 +71,11 @@ module _ (old new : Graph) (p : Plan) (known : ℕ → Type 0) (before : ℕ →
   q = record { known = known; cell = before; asks = asks_nothing }
 
   -- every node of this era is a further one
-  abbrev IsBorn : ℕ → Type 0
+  abbrev pub IsBorn : ℕ → Type 0
   IsBorn y = (m : ℕ) → new.live m ≡ true → new.era m ≡ y → old.live m ≡ false
 
-  -- expressions in an era of further nodes have no cells
-  abbrev BornAt : ℕ → Type 0
+  -- expressions in an era of further nodes have no cells before
+  abbrev pub BornAt : ℕ → Type 0
   BornAt n = (e : Low) (y : ℕ) (env : List Part) (ms : List ℕ) → IsBorn y → Wired new p y n e env ms → Keeps new p q n e env ms kept.Nothing
 
   module _ (n : ℕ) (ih : BornAt n) (y : ℕ) (env : List Part) (born : IsBorn y) where
@@ -109,9 +109,11 @@ module _ (old new : Graph) (p : Plan) (known : ℕ → Type 0) (before : ℕ →
     born_switch a b (signal m) ms st = λ kw.
         let c = first ms in
         let further : IsBorn (suc c) = λ j lv er. go.era_born c j (born c st.watch.live st.watch.era) lv er in
-        let stands = era_chosen a b c (test_of (new.value c)) st.watch.level (new_eras c a b env kw st.watch.live st.watch.kind) in
-        (tt, subst (λ u. Chosen (test_of (new.value c)) (Trees a env (new.members (suc c)) (under_key (key.Test true) u)) (Trees b env (new.members (suc c)) (under_key (key.Test false) u))) (sym (child_none 1))
-          (born_chosen a b (suc c) (new.members (suc c)) (test_of (new.value c)) further stands))
+        let stands = era_chosen a b c (test_of (new.value c)) st.watch.level (new_eras c a b env kw st.watch.live st.watch.kind) in (
+          tt,
+          subst (λ u. Chosen (test_of (new.value c)) (Trees a env (new.members (suc c)) (under_key (key.Test true) u)) (Trees b env (new.members (suc c)) (under_key (key.Test false) u))) (sym (child_none 1))
+              (born_chosen a b (suc c) (new.members (suc c)) (test_of (new.value c)) further stands),
+        )
 
     born_call : (o : Option Low) (qs : AllPlaced) (m : ℕ) → CallStands Stands o qs → CallKeeps Trees o qs (child kept.Nothing m)
     born_call None qs m st = tt
@@ -145,13 +147,15 @@ module _ (old new : Graph) (p : Plan) (known : ℕ → Type 0) (before : ℕ →
     born_shape (Low-F.Feedback init body) ms st =
         let i = walk init env ms in
         let inside = env ++ signal (first i.left) ∷ [] in
-        let none = behind_none (cell_kind of_feedback) in
-        (subst (Trees init env ms) (sym (ap (λ u. child u 0) none ∙ child_none 0)) (ih init y env ms born st.0),
-         subst (Trees body inside (rest i.left)) (sym (ap (λ u. child u 1) none ∙ child_none 1)) (ih body y inside (rest i.left) born st.1),
-         born_cell of_feedback i.left st.2.live st.2.era)
+        let none = behind_none (cell_kind of_feedback) in (
+          subst (Trees init env ms) (sym (ap (λ u. child u 0) none ∙ child_none 0)) (ih init y env ms born st.0),
+          subst (Trees body inside (rest i.left)) (sym (ap (λ u. child u 1) none ∙ child_none 1)) (ih body y inside (rest i.left) born st.1),
+          born_cell of_feedback i.left st.2.live st.2.era,
+        )
     born_shape (Low-F.Collapse id ss) ms st = tt
 
-  born_at : (n : ℕ) → BornAt n
+  -- THE BEGINNING. Nothing is kept of expressions whose nodes are further ones.
+  pub born_at : (n : ℕ) → BornAt n
   unfolding place Wired Keeps
   born_at zero e y env ms born st = tt
   born_at (suc n) e y env ms born st = born_shape n (born_at n) y env born (out-Low e) ms st
@@ -262,16 +266,18 @@ module _ (old new : Graph) (p : Plan) (known : ℕ → Type 0) (before : ℕ →
           let qs = place_all step env es ms in
           (carry_all es 0 ms (behind_cell (of_operator o) k) s0.0 s1.0 kp.0, carry_work o qs.parts qs.left k (is_plain (operates o)) refl s0.1 s1.1 kp.1)
       carry_shape (Low-F.Handler h es id ss) ms k s0 s1 kp =
-          let qs = place_all step env es ms in
-          (carry_all es 0 ms (behind_cell (of_handler h) k) s0.0 s1.0 kp.0,
-           carry_cell (of_handler h) qs.left k (stands_next old x n (handles h id.0) _ qs.left refl s0.2).live (stands_next new x n (handles h id.0) _ qs.left refl s1.2).live kp.1)
+          let qs = place_all step env es ms in (
+            carry_all es 0 ms (behind_cell (of_handler h) k) s0.0 s1.0 kp.0,
+            carry_cell (of_handler h) qs.left k (stands_next old x n (handles h id.0) _ qs.left refl s0.2).live (stands_next new x n (handles h id.0) _ qs.left refl s1.2).live kp.1,
+          )
       carry_shape (Low-F.Loop l es id ss) ms k s0 s1 kp = carry_all es 0 ms k s0.0 s1.0 kp
       carry_shape (Low-F.Feedback init body) ms k s0 s1 kp =
           let i = step init env ms in
-          let inside = env ++ signal (first i.left) ∷ [] in
-          (ih init x env ms (child (behind_cell of_feedback k) 0) s0.0 s1.0 kp.0,
-           ih body x inside (rest i.left) (child (behind_cell of_feedback k) 1) s0.1 s1.1 kp.1,
-           carry_cell of_feedback i.left k s0.2.live s1.2.live kp.2)
+          let inside = env ++ signal (first i.left) ∷ [] in (
+            ih init x env ms (child (behind_cell of_feedback k) 0) s0.0 s1.0 kp.0,
+            ih body x inside (rest i.left) (child (behind_cell of_feedback k) 1) s0.1 s1.1 kp.1,
+            carry_cell of_feedback i.left k s0.2.live s1.2.live kp.2,
+          )
       carry_shape (Low-F.Collapse id ss) ms k s0 s1 kp = tt
 
     -- THE CARRY. The tree for which a graph stood is what its known nodes had before that go on, and nothing of those that are new.

@@ -20,13 +20,13 @@ use Rattle.fr_graph.specs.Wired.{Wired}
 use Rattle.fr_graph.specs.Keeps.{Asked, Keeps, asks_nothing, everything, HasKey, StandsFor}
 use Rattle.fr_graph.specs.Known.{IsClosed, IsKnown, Have, SettledOn, ErasStandOn, HasEnded}
 use Rattle.fr_graph.specs.Sound.{Sound, IsPlanOf, KernelsMean}
-use Rattle.fr_graph.specs.Goes.{Goes}
-use Rattle.fr_graph.specs.Items.{place_items, ItemsStand, ItemsKeep, ItemsSound, AreLowered, body_walk, HasNodes, StandsForTree, IsSettled, ShowsBody}
+use Rattle.fr_graph.specs.Goes.{Goes, IsEmpty}
+use Rattle.fr_graph.specs.Items.{place_items, ItemsStand, ItemsKeep, ItemsSound, AreLowered, body_walk, HasNodes, StandsForTree, IsSettled, ShowsBody, IsAfresh}
 use Rattle.fr_graph.proofs.Parts.{have_append}
 use Rattle.fr_graph.proofs.Means.{kernels_mean}
 use Rattle.fr_graph.proofs.Values.{AgreesAt, values_on}
 use Rattle.fr_graph.proofs.Trees.{StandsAt, trees_on, next_child}
-use Rattle.fr_graph.proofs.Carry.{CarriesAt, carry}
+use Rattle.fr_graph.proofs.Carry.{CarriesAt, carry, born_at, child_none}
 
 module _ (g : Graph) (p : Plan) (pr : Program) (plan : IsPlanOf pr p) (sources : List Now) (before : ℕ → Option Cell) (rules : SettledOn g everything p.table sources before) (eras : ErasStandOn g everything p) (ended : HasEnded g) where
   means : KernelsMean p pr sources
@@ -75,15 +75,17 @@ module _ (g : Graph) (p : Plan) (pr : Program) (plan : IsPlanOf pr p) (sources :
         let d = ev (Rattle.fr_kernel.specs.Erasure.erase t.kernels e) vs (child k i) in
         let more = (items ev (vs ++ d.value ∷ []) k (i + 1) (map (erased_item t.kernels) is)).kepts in
         let rest = items_keep is x (i + 1) (env ++ part ∷ []) (vs ++ d.value ∷ []) (walk e env ms).left k (pre ++ d.kept ∷ []) (length_push pre d.kept ∙ ap (λ j. j + 1) len)
-                  (subst (λ m. ItemsSound t m is) (sym (length_push env part)) s.1) (have_append g everything env vs (part ∷ []) (d.value ∷ []) en (r, tt)) st.1 kp.1 in
-        (subst (StandsFor g p n e env ms) (sym (next_child pre d.kept more i len)) (trees e x env vs ms (child k i) s.0 en st.0 kp.0),
-         subst (λ l. ItemsKeep walk (StandsFor g p n) (env ++ part ∷ []) (i + 1) is (walk e env ms).left (kept.Group l)) (append_assoc pre (d.kept ∷ []) more) rest)
+        (subst (λ m. ItemsSound t m is) (sym (length_push env part)) s.1) (have_append g everything env vs (part ∷ []) (d.value ∷ []) en (r, tt)) st.1 kp.1 in (
+          subst (StandsFor g p n e env ms) (sym (next_child pre d.kept more i len)) (trees e x env vs ms (child k i) s.0 en st.0 kp.0),
+          subst (λ l. ItemsKeep walk (StandsFor g p n) (env ++ part ∷ []) (i + 1) is (walk e env ms).left (kept.Group l)) (append_assoc pre (d.kept ∷ []) more) rest,
+        )
     items_keep (low_item.Show name e ∷ is) x i env vs ms k pre len s en st kp =
         let d = ev (Rattle.fr_kernel.specs.Erasure.erase t.kernels e) vs (child k i) in
         let more = (items ev vs k (i + 1) (map (erased_item t.kernels) is)).kepts in
-        let rest = items_keep is x (i + 1) env vs (walk e env ms).left k (pre ++ d.kept ∷ []) (length_push pre d.kept ∙ ap (λ j. j + 1) len) s.1 en st.1 kp.1 in
-        (subst (StandsFor g p n e env ms) (sym (next_child pre d.kept more i len)) (trees e x env vs ms (child k i) s.0 en st.0 kp.0),
-         subst (λ l. ItemsKeep walk (StandsFor g p n) env (i + 1) is (walk e env ms).left (kept.Group l)) (append_assoc pre (d.kept ∷ []) more) rest)
+        let rest = items_keep is x (i + 1) env vs (walk e env ms).left k (pre ++ d.kept ∷ []) (length_push pre d.kept ∙ ap (λ j. j + 1) len) s.1 en st.1 kp.1 in (
+          subst (StandsFor g p n e env ms) (sym (next_child pre d.kept more i len)) (trees e x env vs ms (child k i) s.0 en st.0 kp.0),
+          subst (λ l. ItemsKeep walk (StandsFor g p n) env (i + 1) is (walk e env ms).left (kept.Group l)) (append_assoc pre (d.kept ∷ []) more) rest,
+        )
 
 module _ (was g : Graph) (p : Plan) (before : ℕ → Option Cell) (go : Goes was g before) (new_eras : ErasStandOn g everything p) (old_eras : ErasStandOn was everything p) (n : ℕ) where
   items_carry : (is : List LowItem) (x i : ℕ) (env : List Part) (ms : List ℕ) (k : Kept) → ItemsStand (place p n) (Wired was p x n) env is ms → ItemsStand (place p n) (Wired g p x n) env is ms
@@ -94,21 +96,42 @@ module _ (was g : Graph) (p : Plan) (before : ℕ → Option Cell) (go : Goes wa
   items_carry (low_item.Show name e ∷ is) x i env ms k s0 s1 kp =
       (carry was g p everything before go new_eras old_eras n e x env ms (child k i) s0.0 s1.0 kp.0, items_carry is x (i + 1) env (place p n e env ms).left k s0.1 s1.1 kp.1)
 
--- what holds of a graph after an instant over a kept tree
-pub record Afresh (g : Graph) (pr : Program) (p : Plan) (is : List LowItem) (ms : List ℕ) (sources : List Now) (k : Kept) : Type 0 where
-  pub shows : ShowsBody g pr p is ms sources k
-  pub stands : StandsForTree g p is ms (kept.Group (body pr sources k).kepts)
-
 -- ONE INSTANT. For every tree for which the graph stood, it then shows what evaluating the body afresh over that tree shows, and stands for what that keeps.
 pub instant_afresh : (was g : Graph) (pr : Program) (p : Plan) (is : List LowItem) (ms : List ℕ) (sources : List Now) (before : ℕ → Option Cell) (k : Kept)
     → AreLowered pr p is → Goes was g before → HasNodes was p is ms → HasNodes g p is ms → IsSettled g p sources before → StandsForTree was p is ms k
-    → Afresh g pr p is ms sources k
+    → IsAfresh g pr p is ms sources k
 instant_afresh was g pr p is ms sources before k lowered go had has settled stood =
     let kp = items_carry was g p before go has.eras had.eras 2000 is 0 0 [] ms k had.items has.items stood in
     let few : 2000 ≤ 2001 = omega arith in
     record {
       shows = subst (λ b. Have g everything (place_items (body_walk p) [] is ms).parts (items (eval_to 2000 (world_of pr sources)) [] k 0 b).shown) (sym lowered.items)
-        (items_show g p pr lowered.plan sources before settled.rules has.eras settled.ended 2000 few is 0 0 [] [] ms k lowered.sound tt has.items kp);
+          (items_show g p pr lowered.plan sources before settled.rules has.eras settled.ended 2000 few is 0 0 [] [] ms k lowered.sound tt has.items kp);
       stands = subst (λ b. StandsForTree g p is ms (kept.Group (items (eval_to 2000 (world_of pr sources)) [] k 0 b).kepts)) (sym lowered.items)
-        (items_keep g p pr lowered.plan sources before settled.rules has.eras settled.ended 2000 few is 0 0 [] [] ms k [] refl lowered.sound tt has.items kp);
+          (items_keep g p pr lowered.plan sources before settled.rules has.eras settled.ended 2000 few is 0 0 [] [] ms k [] refl lowered.sound tt has.items kp);
+    }
+
+module _ (was g : Graph) (p : Plan) (before : ℕ → Option Cell) (go : Goes was g before) (new_eras : ErasStandOn g everything p) (n : ℕ) (x : ℕ) (empty : IsEmpty was) where
+  items_begin : (is : List LowItem) (i : ℕ) (env : List Part) (ms : List ℕ) → ItemsStand (place p n) (Wired g p x n) env is ms
+      → ItemsKeep (place p n) (Keeps g p (record { known = everything; cell = before; asks = asks_nothing }) n) env i is ms kept.Nothing
+  items_begin [] i env ms st = tt
+  items_begin (low_item.Define e ∷ is) i env ms st = (
+    subst (Keeps g p (record { known = everything; cell = before; asks = asks_nothing }) n e env ms) (sym (child_none i)) (born_at was g p everything before go new_eras n e x env ms (λ m lv er. empty m) st.0),
+    items_begin is (i + 1) (env ++ (place p n e env ms).part ∷ []) (place p n e env ms).left st.1,
+  )
+  items_begin (low_item.Show name e ∷ is) i env ms st = (
+    subst (Keeps g p (record { known = everything; cell = before; asks = asks_nothing }) n e env ms) (sym (child_none i)) (born_at was g p everything before go new_eras n e x env ms (λ m lv er. empty m) st.0),
+    items_begin is (i + 1) env (place p n e env ms).left st.1,
+  )
+
+-- THE FIRST INSTANT. A graph all of whose nodes are further ones shows what evaluating the body afresh over nothing kept shows, and stands for what that keeps.
+pub first_afresh : (was g : Graph) (pr : Program) (p : Plan) (is : List LowItem) (ms : List ℕ) (sources : List Now) (before : ℕ → Option Cell)
+    → AreLowered pr p is → IsEmpty was → Goes was g before → HasNodes g p is ms → IsSettled g p sources before → IsAfresh g pr p is ms sources kept.Nothing
+first_afresh was g pr p is ms sources before lowered empty go has settled =
+    let kp = items_begin was g p before go has.eras 2000 0 empty is 0 [] ms has.items in
+    let few : 2000 ≤ 2001 = omega arith in
+    record {
+      shows = subst (λ b. Have g everything (place_items (body_walk p) [] is ms).parts (items (eval_to 2000 (world_of pr sources)) [] kept.Nothing 0 b).shown) (sym lowered.items)
+          (items_show g p pr lowered.plan sources before settled.rules has.eras settled.ended 2000 few is 0 0 [] [] ms kept.Nothing lowered.sound tt has.items kp);
+      stands = subst (λ b. StandsForTree g p is ms (kept.Group (items (eval_to 2000 (world_of pr sources)) [] kept.Nothing 0 b).kepts)) (sym lowered.items)
+          (items_keep g p pr lowered.plan sources before settled.rules has.eras settled.ended 2000 few is 0 0 [] [] ms kept.Nothing [] refl lowered.sound tt has.items kp);
     }

@@ -126,7 +126,6 @@ prompt_inputs operator.OnceE ps e = refl
 
 module _ (g : Graph) (p : Plan) (pr : Program) (plan : IsPlanOf pr p) (sources : List Now) (before : ℕ → Option Cell)
     (settled : SettledOn g everything p.table sources before) (eras : ErasStandOn g everything p) (means : KernelsMean p pr sources) (ended : HasEnded g) where
-
   abbrev t : Kernels
   t = p.table
 
@@ -185,10 +184,11 @@ module _ (g : Graph) (p : Plan) (pr : Program) (plan : IsPlanOf pr p) (sources :
         let ks = (parts ev vs k (i + 1) (map f es)).kepts in
         let group = pre ++ (d.kept ∷ (ks ++ more)) in
         let here : child (kept.Group group) i ≡ d.kept
-            = child_group group i ∙ ap (λ j. unwrap_or (slice_get group j) kept.Nothing) (sym len) ∙ at_seam pre d.kept (ks ++ more) in
-        let behind = all_keep es (i + 1) (walk e env ms).left k (pre ++ d.kept ∷ []) more (length_push pre d.kept ∙ ap (λ j. j + 1) len) s.1 st.1 kp.1 in
-        (subst (News e env ms) (sym here) (ih e x env vs ms (child k i) s.0 en st.0 kp.0),
-         subst (λ l. AllKeep walk News env (i + 1) es (walk e env ms).left (kept.Group l)) (append_assoc pre (d.kept ∷ []) (ks ++ more)) behind)
+        = child_group group i ∙ ap (λ j. unwrap_or (slice_get group j) kept.Nothing) (sym len) ∙ at_seam pre d.kept (ks ++ more) in
+        let behind = all_keep es (i + 1) (walk e env ms).left k (pre ++ d.kept ∷ []) more (length_push pre d.kept ∙ ap (λ j. j + 1) len) s.1 st.1 kp.1 in (
+          subst (News e env ms) (sym here) (ih e x env vs ms (child k i) s.0 en st.0 kp.0),
+          subst (λ l. AllKeep walk News env (i + 1) es (walk e env ms).left (kept.Group l)) (append_assoc pre (d.kept ∷ []) (ks ++ more)) behind,
+        )
 
     -- the last of a group
     last_child : (ks : List Kept) (d : Kept) (m : ℕ) → length ks ≡ m → child (kept.Group (ks ++ d ∷ [])) m ≡ d
@@ -218,7 +218,7 @@ module _ (g : Graph) (p : Plan) (pr : Program) (plan : IsPlanOf pr p) (sources :
         → Chosen (Ok holds) (EraStands g p m a env) (EraStands g p m b env)
         → Chosen (Ok holds) (Trees a env (g.members (suc m)) (under_key (key.Test true) (child k 1))) (Trees b env (g.members (suc m)) (under_key (key.Test false) (child k 1)))
         → (let tree = child (switch_done ev vs k d (on_ok (chosen_by (f a) (f b)) (Ok holds))).kept 1 in
-          Chosen (Ok holds) (News a env (g.members (suc m)) (under_key (key.Test true) tree)) (News b env (g.members (suc m)) (under_key (key.Test false) tree)))
+        Chosen (Ok holds) (News a env (g.members (suc m)) (under_key (key.Test true) tree)) (News b env (g.members (suc m)) (under_key (key.Test false) tree)))
     era_keeps a b m k d true sa sb level era kp = chosen_keeps a b (suc m) (g.members (suc m)) k _ d (Ok true) sa sb (subst (λ j. Wired g p (suc m) j a env (g.members (suc m))) level era.wired) kp refl
     era_keeps a b m k d false sa sb level era kp = chosen_keeps a b (suc m) (g.members (suc m)) k _ d (Ok false) sa sb (subst (λ j. Wired g p (suc m) j b env (g.members (suc m))) level era.wired) kp refl
 
@@ -239,9 +239,10 @@ module _ (g : Graph) (p : Plan) (pr : Program) (plan : IsPlanOf pr p) (sources :
         let tree = child (switch_done ev vs k d (on_ok (chosen_by (f a) (f b)) (Ok rule.holds))).kept 1 in
         let news = era_keeps a b c k d rule.holds sa sb st.watch.level era trees in
         subst (λ o. (let tree = child (switch_done ev vs k d (on_ok (chosen_by (f a) (f b)) o)).kept 1 in
-            HasKey g c tree × Chosen (test_of (g.value c)) (News a env (g.members (suc c)) (under_key (key.Test true) tree)) (News b env (g.members (suc c)) (under_key (key.Test false) tree)))) (sym tested)
-          (record { holds = rule.holds; value = rule.value; chose = key_kept a b k d rule.holds },
-           subst (λ o. Chosen o (News a env (g.members (suc c)) (under_key (key.Test true) tree)) (News b env (g.members (suc c)) (under_key (key.Test false) tree))) (sym rule.value) news)
+        HasKey g c tree × Chosen (test_of (g.value c)) (News a env (g.members (suc c)) (under_key (key.Test true) tree)) (News b env (g.members (suc c)) (under_key (key.Test false) tree)))) (sym tested) (
+          record { holds = rule.holds; value = rule.value; chose = key_kept a b k d rule.holds },
+          subst (λ o. Chosen o (News a env (g.members (suc c)) (under_key (key.Test true) tree)) (News b env (g.members (suc c)) (under_key (key.Test false) tree))) (sym rule.value) news,
+        )
 
     -- the value of a work's node
     node_good : (wk : Work) (ps : List Part) (us : List Seen) (ms : List ℕ) (c : Option Cell) → is_plain wk ≡ false → WorkStands g x n wk ps ms → Have g everything ps us → before (first ms) ≡ c
@@ -284,7 +285,7 @@ module _ (g : Graph) (p : Plan) (pr : Program) (plan : IsPlanOf pr p) (sources :
         let last = late_there o ps late takes in
         let latched = ended.latched (first ms) (operates o) last.0 next.live next.kind late (next.later ∙ last.2) in
         let same : part_value g last.0 ≡ part us (late_part o)
-            = ap (λ h. part_value g (variable_part h)) (sym last.1) ∙ have_at g everything ps us (late_part o) have (each_known _) in
+        = ap (λ h. part_value g (variable_part h)) (sym last.1) ∙ have_at g everything ps us (late_part o) have (each_known _) in
         let comes : state_next (of_operator o) us ≡ Ok latched.taken = sym (late_next o us late) ∙ ap (latch (operates o)) (sym same) ∙ latched.takes in
         let line = late_line o c us latched.taken late comes in
         record {
@@ -342,18 +343,19 @@ module _ (g : Graph) (p : Plan) (pr : Program) (plan : IsPlanOf pr p) (sources :
         let count : length ps.kepts ≡ length es = parts_kepts ev vs k 0 (map f es) ∙ length-map es f in
         let d = ev (f b) (vs ++ ps.values) (child k (length es)) in
         let body : News b (env ++ qs.parts) qs.left d.kept
-            = ih b x (env ++ qs.parts) (vs ++ ps.values) qs.left (child k (length es)) (subst (λ m. Sound t m b) (sym wide) inside.1) (have_append g everything env vs qs.parts ps.values en have) st.1 kp.1 in
+        = ih b x (env ++ qs.parts) (vs ++ ps.values) qs.left (child k (length es)) (subst (λ m. Sound t m b) (sym wide) inside.1) (have_append g everything env vs qs.parts ps.values en have) st.1 kp.1 in
         subst (λ u. AllKeep walk News env 0 es ms u × News b (env ++ qs.parts) qs.left (child u (length es))) (ap (λ j. kept.Group (ps.kepts ++ (ev (f b) (vs ++ ps.values) (child k j)).kept ∷ [])) (sym (length-map es f)) ∙ opens (core.Let (map f es) (f b)) (Core-F.Let (map f es) (f b)) k (outs-Let (map f es) (f b)))
-          (all_keep es 0 ms k [] (d.kept ∷ []) refl inside.0 st.0 kp.0, subst (News b (env ++ qs.parts) qs.left) (sym (last_child ps.kepts d.kept (length es) count)) body)
+        (all_keep es 0 ms k [] (d.kept ∷ []) refl inside.0 st.0 kp.0, subst (News b (env ++ qs.parts) qs.left) (sym (last_child ps.kepts d.kept (length es) count)) body)
     shape_keeps (Low-F.If site test a b) ms k s st kp =
         let inside = outer_sound t (length env) (test ∷ a ∷ b ∷ []) s.inside in
         let d = ev (f test) vs (child k 0) in
         let placed = walk test env ms in
         let r = agrees_at n below test x env vs ms (child k 0) inside.0 en st.0 kp.0 in
         let here = ih test x env vs ms (child k 0) inside.0 en st.0 kp.0 in
-        subst (λ u. News test env ms (child u 0) × SwitchKeeps g new News a b env placed.part placed.left (child u 1)) (opens (core.If (f test) (f a) (f b)) (Core-F.If (f test) (f a) (f b)) k (outs-If (f test) (f a) (f b)))
-          (test_first (on_ok (chosen_by (f a) (f b)) (test_of d.value)) test ms k d here,
-           switch_keeps a b placed.part placed.left k d inside.1.0 inside.1.1.0 r st.1 kp.1)
+        subst (λ u. News test env ms (child u 0) × SwitchKeeps g new News a b env placed.part placed.left (child u 1)) (opens (core.If (f test) (f a) (f b)) (Core-F.If (f test) (f a) (f b)) k (outs-If (f test) (f a) (f b))) (
+          test_first (on_ok (chosen_by (f a) (f b)) (test_of d.value)) test ms k d here,
+          switch_keeps a b placed.part placed.left k d inside.1.0 inside.1.1.0 r st.1 kp.1,
+        )
       where
         test_first : (r : Result Rattle.fr_meaning.specs.Evaluation.Choice Bad) (test : Low) (ms : List ℕ) (k : Kept) (d : Done) → News test env ms d.kept → News test env ms (child (switch_done ev vs k d r).kept 0)
         test_first (Err bad) test ms k d h = subst (News test env ms) (sym (child_group (d.kept ∷ kept.Nothing ∷ []) 0)) h
@@ -368,8 +370,8 @@ module _ (g : Graph) (p : Plan) (pr : Program) (plan : IsPlanOf pr p) (sources :
         let same : option_map f o ≡ body_for (slice_get w.functions id.0) m = sym (bodies_match t.kernels p.functions id.0 m) ∙ ap (λ fs. body_for (slice_get fs id.0) m) (sym plan.functions) in
         let count : length ps.kepts ≡ m = parts_kepts ev vs k 0 (map f es) ∙ length-map es f in
         subst (λ u. AllKeep walk News env 0 es ms u × CallKeeps News o qs (child u m))
-          (ap (λ b. (call_done ev k m ps b).kept) same ∙ ap (λ j. (call_done ev k j ps (body_for (slice_get w.functions id.0) j)).kept) (sym (length-map es f)) ∙ opens (core.Apply id (map f es)) (Core-F.Apply id (map f es)) k (outs-Apply id (map f es)))
-          (call_parts o es ms k m sound st.0 kp.0, call_keeps o qs k m ps count have (all_length walk env es ms) (λ body e. low_sound t (slice_get p.functions id.0) m body (plan.bodies id.0) e) st.1 kp.1)
+        (ap (λ b. (call_done ev k m ps b).kept) same ∙ ap (λ j. (call_done ev k j ps (body_for (slice_get w.functions id.0) j)).kept) (sym (length-map es f)) ∙ opens (core.Apply id (map f es)) (Core-F.Apply id (map f es)) k (outs-Apply id (map f es)))
+        (call_parts o es ms k m sound st.0 kp.0, call_keeps o qs k m ps count have (all_length walk env es ms) (λ body e. low_sound t (slice_get p.functions id.0) m body (plan.bodies id.0) e) st.1 kp.1)
     shape_keeps (Low-F.Operator o es) ms k s st kp =
         let qs = place_all walk env es ms in
         let inner = behind_cell (of_operator o) k in
@@ -380,7 +382,7 @@ module _ (g : Graph) (p : Plan) (pr : Program) (plan : IsPlanOf pr p) (sources :
         let kept_by = operator_kept o qs.parts ps.values qs.left (form_cell (of_operator o) k) (ap (operator_takes o) (all_length walk env es ms) ∙ s.parts) st.1 have (known_cell (is_plain (operates o)) qs.left (of_operator o) k kp.1) in
         let trees = form_keeps (of_operator o) es ms inner line.next sound st.0 kp.0 kept_by.fits in
         subst (λ u. AllKeep walk News env 0 es ms (behind_cell (of_operator o) u) × Unless (is_plain (operates o)) (CellKeeps new (of_operator o) qs.left u)) (opens (core.Operator o (map f es)) (Core-F.Operator o (map f es)) k (outs-Operator o (map f es)))
-          (trees.0, new_cell (is_plain (operates o)) qs.left (of_operator o) _ line.next trees.1 kept_by.cell)
+        (trees.0, new_cell (is_plain (operates o)) qs.left (of_operator o) _ line.next trees.1 kept_by.cell)
       where
         known_cell : (b : Bool) (ns : List ℕ) (form : StateForm) (k : Kept) → Unless b (CellKeeps old form ns k) → Unless b (before (first ns) ≡ form_cell form k)
         known_cell true ns form k h = tt
@@ -407,21 +409,21 @@ module _ (g : Graph) (p : Plan) (pr : Program) (plan : IsPlanOf pr p) (sources :
         let both = have_append g everything qs.parts ps.values (slot_parts p env ss) others have slots in
         let good = node_good (handles h id.0) (qs.parts ++ slot_parts p env ss) (ps.values ++ others) qs.left cell refl st.2 both (kp.1 tt) in
         let value : (state_now (of_handler h) cell ps.values call).value ≡ (work_line t n (handles h id.0) cell (ps.values ++ others)).value
-            = sym (ap (λ xs. (state_now (of_handler h) cell xs (kernel_call t n id.0 (drop (handler_parts h) (ps.values ++ others)))).value) front
-            ∙ ap (λ xs. (state_now (of_handler h) cell ps.values (kernel_call t n id.0 xs)).value) behind ∙ handler_value h cell ps.values (kernel_call t n id.0 others) call means_here) in
+        = sym (ap (λ xs. (state_now (of_handler h) cell xs (kernel_call t n id.0 (drop (handler_parts h) (ps.values ++ others)))).value) front
+        ∙ ap (λ xs. (state_now (of_handler h) cell ps.values (kernel_call t n id.0 xs)).value) behind ∙ handler_value h cell ps.values (kernel_call t n id.0 others) call means_here) in
         let next : (work_line t n (handles h id.0) cell (ps.values ++ others)).next ≡ (state_now (of_handler h) cell ps.values call).next
-            = ap (λ xs. (state_now (of_handler h) cell xs (kernel_call t n id.0 (drop (handler_parts h) (ps.values ++ others)))).next) front
-            ∙ ap (λ xs. (state_now (of_handler h) cell ps.values (kernel_call t n id.0 xs)).next) behind ∙ handler_next h cell ps.values (kernel_call t n id.0 others) call means_here in
+        = ap (λ xs. (state_now (of_handler h) cell xs (kernel_call t n id.0 (drop (handler_parts h) (ps.values ++ others)))).next) front
+        ∙ ap (λ xs. (state_now (of_handler h) cell ps.values (kernel_call t n id.0 xs)).next) behind ∙ handler_next h cell ps.values (kernel_call t n id.0 others) call means_here in
         let line = state_now (of_handler h) cell ps.values call in
         let trees = form_keeps (of_handler h) es ms inner line.next sound st.0 kp.0 (handler_fits h cell ps.values call good.0 (value ∙ good.1)) in
         let has = node_cell (handles h id.0) (qs.parts ++ slot_parts p env ss) (ps.values ++ others) qs.left cell refl refl refl st.2 both (kp.1 tt) in
         subst (λ u. AllKeep walk News env 0 es ms (behind_cell (of_handler h) u) × CellKeeps new (of_handler h) qs.left u) (opens (core.Handler h (map f es) body) (Core-F.Handler h (map f es) body) k (outs-Handler h (map f es) body))
-          (trees.0, λ kn. has ∙ next ∙ trees.1)
+        (trees.0, λ kn. has ∙ next ∙ trees.1)
     shape_keeps (Low-F.Loop l es id ss) ms k s st kp =
         let ks = (parts ev vs k 0 (map f es)).kepts in
         let body = kernel_expr t.kernels id.0 in
         subst (AllKeep walk News env 0 es ms) (opens (core.Loop l (map f es) body) (Core-F.Loop l (map f es) body) k (outs-Loop l (map f es) body))
-          (subst (λ l. AllKeep walk News env 0 es ms (kept.Group l)) (append-nil ks) (all_keep es 0 ms k [] [] refl (outer_sound t (length env) es s.inside) st.0 kp))
+        (subst (λ l. AllKeep walk News env 0 es ms (kept.Group l)) (append-nil ks) (all_keep es 0 ms k [] [] refl (outer_sound t (length env) es s.inside) st.0 kp))
     shape_keeps (Low-F.Feedback init body) ms k s st kp =
         let i = walk init env ms in
         let inner = behind_cell of_feedback k in
@@ -448,10 +450,11 @@ module _ (g : Graph) (p : Plan) (pr : Program) (plan : IsPlanOf pr p) (sources :
         let here = ih init x env vs ms (child inner 0) sound0 en st.0 kp.0 in
         let there = ih body x inside (vs ++ x0 ∷ []) (rest i.left) (child inner 1) sound1 have st.1 kp.1 in
         subst (λ u. News init env ms (child (behind_cell of_feedback u) 0) × News body inside (rest i.left) (child (behind_cell of_feedback u) 1) × CellKeeps new of_feedback i.left u)
-          (ap (λ o. with_cell o (kept.Group ks)) (sym next) ∙ opens (core.Feedback (f init) (f body)) (Core-F.Feedback (f init) (f body)) k (outs-Feedback (f init) (f body)))
-          (subst (News init env ms) (sym (ap (λ u. child u 0) back.tree ∙ child_group ks 0)) here,
-           subst (News body inside (rest i.left)) (sym (ap (λ u. child u 1) back.tree ∙ child_group ks 1)) there,
-           λ kn. latched.kept ∙ sym back.cell)
+        (ap (λ o. with_cell o (kept.Group ks)) (sym next) ∙ opens (core.Feedback (f init) (f body)) (Core-F.Feedback (f init) (f body)) k (outs-Feedback (f init) (f body))) (
+          subst (News init env ms) (sym (ap (λ u. child u 0) back.tree ∙ child_group ks 0)) here,
+          subst (News body inside (rest i.left)) (sym (ap (λ u. child u 1) back.tree ∙ child_group ks 1)) there,
+          λ kn. latched.kept ∙ sym back.cell,
+        )
       where
         zero_more : (m : ℕ) → m + 0 ≡ m
         zero_more m = omega arith
@@ -464,4 +467,4 @@ module _ (g : Graph) (p : Plan) (pr : Program) (plan : IsPlanOf pr p) (sources :
   trees_on (suc n) few e x env vs ms k s en st kp =
       let below : n ≤ 2001 = omega (arith, few) in
       subst (λ c. ShapeKeeps g p new (place p n) (Keeps g p new n) env ms (eval_to (suc n) w c vs k).kept (out-Low e)) (sym (erase-opens t.kernels e))
-        (shape_keeps n few (trees_on n below) x env vs en (out-Low e) ms k (sound_shape t (length env) e s) st kp)
+      (shape_keeps n few (trees_on n below) x env vs en (out-Low e) ms k (sound_shape t (length env) e s) st kp)

@@ -40,7 +40,6 @@ use Rattle.fr_graph.proofs.Inside.{erase-opens, SoundShape, sound_shape, AllSoun
 
 module _ (g : Graph) (known : ℕ → Type 0) (p : Plan) (pr : Program) (plan : IsPlanOf pr p) (sources : List Now) (before : ℕ → Option Cell)
     (closed : IsClosed g known) (settled : SettledOn g known p.table sources before) (eras : ErasStandOn g known p) (means : KernelsMean p pr sources) where
-
   abbrev t : Kernels
   t = p.table
 
@@ -121,8 +120,8 @@ module _ (g : Graph) (known : ℕ → Type 0) (p : Plan) (pr : Program) (plan : 
         let wired : Wired g p (suc m) n e env ms = subst (λ j. Wired g p (suc m) j e env ms) level era.wired in
         let input : g.inputs r ≡ (place p n e env ms).part ∷ [] = ap g.inputs (sym is) ∙ era.input ∙ ap (λ j. (place p j e env ms).part ∷ []) level in
         let rule : g.value r ≡ part_value g (place p n e env ms).part
-            = subst (λ (j : Kind). Rule g t sources before r j ((place p n e env ms).part ∷ [])) kind
-              (subst (λ (l : List Part). Rule g t sources before r (g.kind r) l) input (settled r kn lv)) in
+        = subst (λ (j : Kind). Rule g t sources before r j ((place p n e env ms).part ∷ [])) kind
+        (subst (λ (l : List Part). Rule g t sources before r (g.kind r) l) input (settled r kn lv)) in
         rule ∙ ih e (suc m) env vs ms tree s en wired kp (input_known r (place p n e env ms).part kn lv input)
 
     era_on : (a b : Low) (m r : ℕ) (k : Kept) (d : Done) (holds : Bool) → Sound t (length env) a → Sound t (length env) b → g.level m ≡ n
@@ -148,7 +147,7 @@ module _ (g : Graph) (known : ℕ → Type 0) (p : Plan) (pr : Program) (plan : 
         let era = subst (λ o. Chosen o (EraStands g p c a env) (EraStands g p c b env)) rule.value (eras c a b env kw st.watch.live st.watch.kind) in
         let trees = subst (λ o. Chosen o (Trees a env (g.members (suc c)) (under_key (key.Test true) (child k 1))) (Trees b env (g.members (suc c)) (under_key (key.Test false) (child k 1)))) rule.value (kp kw).1 in
         subst (λ o. g.value (first (rest ms)) ≡ (switch_done ev vs k d (on_ok (chosen_by (f a) (f b)) o)).value) (sym tested)
-          (era_on a b c (first (rest ms)) k d rule.holds sa sb st.watch.level era trees kr st.live st.kind st.result)
+        (era_on a b c (first (rest ms)) k d rule.holds sa sb st.watch.level era trees kr st.live st.kind st.result)
 
     -- a call
 
@@ -197,7 +196,7 @@ module _ (g : Graph) (known : ℕ → Type 0) (p : Plan) (pr : Program) (plan : 
         let ps = parts ev vs before_parts 0 (map f es) in
         let have = all_on es 0 ms before_parts (outer_sound t (length env) es s.inside) st.0 kp.0 in
         work_value g known t sources before closed settled p x n (operates o) qs.parts ps.values qs.left (form_cell (of_operator o) k) refl st.1 have
-          (λ e. subst (λ b. Unless b (CellKeeps q (of_operator o) qs.left k)) e kp.1) kn
+        (λ e. subst (λ b. Unless b (CellKeeps q (of_operator o) qs.left k)) e kp.1) kn
         ∙ opens (core.Operator o (map f es)) (Core-F.Operator o (map f es)) k (outs-Operator o (map f es))
     shape_on (Low-F.Handler h es id ss) ms k s st kp = λ kn.
         let qs = place_all walk env es ms in
@@ -212,11 +211,11 @@ module _ (g : Graph) (known : ℕ → Type 0) (p : Plan) (pr : Program) (plan : 
         let front : take (handler_parts h) (ps.values ++ others) ≡ ps.values = ap (λ m. take m (ps.values ++ others)) (sym count) ∙ take-append_seam ps.values others in
         let behind : drop (handler_parts h) (ps.values ++ others) ≡ others = ap (λ m. drop m (ps.values ++ others)) (sym count) ∙ drop-append_seam ps.values others in
         work_value g known t sources before closed settled p x n (handles h id.0) (qs.parts ++ slot_parts p env ss) (ps.values ++ others) qs.left cell refl st.2
-          (have_append g known qs.parts ps.values (slot_parts p env ss) others have slots) (λ e. kp.1) kn
+        (have_append g known qs.parts ps.values (slot_parts p env ss) others have slots) (λ e. kp.1) kn
         ∙ ap (λ xs. (state_now (of_handler h) cell xs (kernel_call t n id.0 (drop (handler_parts h) (ps.values ++ others)))).value) front
         ∙ ap (λ xs. (state_now (of_handler h) cell ps.values (kernel_call t n id.0 xs)).value) behind
         ∙ handler_value h cell ps.values (kernel_call t n id.0 others) (handler ev vs (length (map f es)) body)
-            (λ args e. kernel_means n id.0 (handler_binds h) ss args kept.Nothing (omega (arith, few)) s.fits e)
+        (λ args e. kernel_means n id.0 (handler_binds h) ss args kept.Nothing (omega (arith, few)) s.fits e)
         ∙ opens (core.Handler h (map f es) body) (Core-F.Handler h (map f es) body) k (outs-Handler h (map f es) body)
     shape_on (Low-F.Loop l es id ss) ms k s st kp = λ kn.
         let qs = place_all walk env es ms in
@@ -227,7 +226,7 @@ module _ (g : Graph) (known : ℕ → Type 0) (p : Plan) (pr : Program) (plan : 
         let body = kernel_expr t.kernels id.0 in
         let count : length ps.values ≡ 2 = sym (have_length g known qs.parts ps.values have) ∙ all_length walk env es ms ∙ s.parts in
         work_value g known t sources before closed settled p x n (loops l id.0) (qs.parts ++ slot_parts p env ss) (ps.values ++ others) qs.left None refl st.2
-          (have_append g known qs.parts ps.values (slot_parts p env ss) others have slots) (λ e. absurd (false≢true (sym e))) kn
+        (have_append g known qs.parts ps.values (slot_parts p env ss) others have slots) (λ e. absurd (false≢true (sym e))) kn
         ∙ loop_line l id.0 ps.values others body count (λ args e. kernel_means n id.0 (loop_binds l) ss args kept.Nothing (omega (arith, few)) s.fits e)
         ∙ opens (core.Loop l (map f es) body) (Core-F.Loop l (map f es) body) k (outs-Loop l (map f es) body)
       where
@@ -249,9 +248,9 @@ module _ (g : Graph) (known : ℕ → Type 0) (p : Plan) (pr : Program) (plan : 
         let inside = env ++ signal c ∷ [] in
         let x0 = fed (form_cell of_feedback k) d.value in
         let name : known c → g.value c ≡ x0 = λ kc.
-            let rule : IsWorked g t (before c) c feeds (i.part ∷ []) = rule_on g known t sources before closed settled x n (works feeds) (i.part ∷ []) (Some (walk body inside (rest i.left)).part) i.left kc st.2 in
-            let ki = (inputs_on g known t sources before closed settled x n (works feeds) (i.part ∷ []) (Some (walk body inside (rest i.left)).part) i.left kc st.2).0 in
-            rule.value ∙ ap (λ o. fed o (part_value g i.part)) (kp.2 kc) ∙ ap (fed (form_cell of_feedback k)) (r ki) in
+        let rule : IsWorked g t (before c) c feeds (i.part ∷ []) = rule_on g known t sources before closed settled x n (works feeds) (i.part ∷ []) (Some (walk body inside (rest i.left)).part) i.left kc st.2 in
+        let ki = (inputs_on g known t sources before closed settled x n (works feeds) (i.part ∷ []) (Some (walk body inside (rest i.left)).part) i.left kc st.2).0 in
+        rule.value ∙ ap (λ o. fed o (part_value g i.part)) (kp.2 kc) ∙ ap (fed (form_cell of_feedback k)) (r ki) in
         let wide : length inside ≡ length env + 1 = length-append env (signal c ∷ []) in
         let sound1 = subst (λ m. Sound t m body) (sym wide) (s.inside 1 (1, body) refl) in
         let b = ev (f body) (vs ++ x0 ∷ []) (child before_parts 1) in
@@ -274,4 +273,4 @@ module _ (g : Graph) (known : ℕ → Type 0) (p : Plan) (pr : Program) (plan : 
   values_on (suc n) few e x env vs ms k s en st kp =
       let below : n ≤ 2001 = omega (arith, few) in
       subst (λ c. Agrees (place_shape p n (place p n) env ms (out-Low e)) (eval_to (suc n) w c vs k)) (sym (erase-opens t.kernels e))
-        (shape_on n few (values_on n below) x env vs en (out-Low e) ms k (sound_shape t (length env) e s) st kp)
+      (shape_on n few (values_on n below) x env vs en (out-Low e) ms k (sound_shape t (length env) e s) st kp)

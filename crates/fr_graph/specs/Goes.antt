@@ -11,3 +11,7 @@ pub record Goes (old new : Graph) (before : ℕ → Option Cell) : Type 0 where
   pub era_same : (w : ℕ) → old.live w ≡ true → new.live w ≡ true → test_of (new.value w) ≡ test_of (old.value w) → new.members (suc w) ≡ old.members (suc w)
   pub era_new : (w m : ℕ) → old.live w ≡ true → new.live w ≡ true → test_of (new.value w) ≢ test_of (old.value w) → new.live m ≡ true → new.era m ≡ suc w → old.live m ≡ false
   pub era_born : (w m : ℕ) → old.live w ≡ false → new.live m ≡ true → new.era m ≡ suc w → old.live m ≡ false
+
+-- no node lives
+abbrev pub IsEmpty : Graph → Type 0
+IsEmpty g = (m : ℕ) → g.live m ≡ false

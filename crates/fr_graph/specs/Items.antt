@@ -76,3 +76,8 @@ pub record IsSettled (g : Graph) (p : Plan) (sources : List Now) (before : ℕ �
 -- a graph shows what the evaluation of a program's body shows
 abbrev pub ShowsBody : Graph → Program → Plan → List LowItem → List ℕ → List Now → Kept → Type 0
 ShowsBody g pr p is ms sources k = Have g everything (place_items (body_walk p) [] is ms).parts (body pr sources k).shown
+
+-- what holds of a graph at the end of an instant over a kept tree: it shows what evaluating the body afresh over that tree shows, and stands for what that keeps
+pub record IsAfresh (g : Graph) (pr : Program) (p : Plan) (is : List LowItem) (ms : List ℕ) (sources : List Now) (k : Kept) : Type 0 where
+  pub shows : ShowsBody g pr p is ms sources k
+  pub stands : StandsForTree g p is ms (kept.Group (body pr sources k).kepts)

@@ -35,7 +35,7 @@ SwitchKeeps g q K a b env (steady v) ms k = Chosen (test_of v) (K a env ms (unde
 SwitchKeeps g q K a b env (signal m) ms k =
     let w = first ms in
     q.known w → q.asks w k
-        × Chosen (test_of (g.value w)) (K a env (g.members (suc w)) (under_key (key.Test true) k)) (K b env (g.members (suc w)) (under_key (key.Test false) k))
+    × Chosen (test_of (g.value w)) (K a env (g.members (suc w)) (under_key (key.Test true) k)) (K b env (g.members (suc w)) (under_key (key.Test false) k))
 
 -- a call behind its arguments
 abbrev pub CallKeeps : Keeping → Option Low → AllPlaced → Kept → Type 0
@@ -67,8 +67,8 @@ ShapeKeeps g p q walk K env ms k (Low-F.Loop l es id ss) = AllKeep walk K env 0 
 ShapeKeeps g p q walk K env ms k (Low-F.Feedback init body) =
     let i = walk init env ms in
     K init env ms (child (behind_cell of_feedback k) 0)
-        × K body (env ++ signal (first i.left) ∷ []) (rest i.left) (child (behind_cell of_feedback k) 1)
-        × CellKeeps q of_feedback i.left k
+    × K body (env ++ signal (first i.left) ∷ []) (rest i.left) (child (behind_cell of_feedback k) 1)
+    × CellKeeps q of_feedback i.left k
 ShapeKeeps g p q walk K env ms k (Low-F.Collapse id ss) = Unit {0}
 
 -- the tree has the cells that the known nodes of an expression have, eras of known watches too; of each such watch the rest is asked
