@@ -94,13 +94,13 @@ module _ (old new : Graph) (p : Plan) (known : ℕ → Type 0) (before : ℕ →
 
     born_chosen : (a b : Low) (x : ℕ) (ms : List ℕ) (o : Result Bool Bad) → IsBorn x → Chosen o (Wired new p x n a env ms) (Wired new p x n b env ms)
         → Chosen o (Trees a env ms (under_key (key.Test true) kept.Nothing)) (Trees b env ms (under_key (key.Test false) kept.Nothing))
-    born_chosen a b x ms (Err bad) h st = tt
+    born_chosen a b x ms (Err bad) h st = absurd st
     born_chosen a b x ms (Ok true) h st = subst (Trees a env ms) (sym (under_none (key.Test true))) (ih a x env ms h st)
     born_chosen a b x ms (Ok false) h st = subst (Trees b env ms) (sym (under_none (key.Test false))) (ih b x env ms h st)
 
     era_chosen : (a b : Low) (w : ℕ) (o : Result Bool Bad) → new.level w ≡ n → Chosen o (EraStands new p w a env) (EraStands new p w b env)
         → Chosen o (Wired new p (suc w) n a env (new.members (suc w))) (Wired new p (suc w) n b env (new.members (suc w)))
-    era_chosen a b w (Err bad) level st = tt
+    era_chosen a b w (Err bad) level st = absurd st
     era_chosen a b w (Ok true) level st = subst (λ j. Wired new p (suc w) j a env (new.members (suc w))) level st.wired
     era_chosen a b w (Ok false) level st = subst (λ j. Wired new p (suc w) j b env (new.members (suc w))) level st.wired
 
@@ -116,15 +116,15 @@ module _ (old new : Graph) (p : Plan) (known : ℕ → Type 0) (before : ℕ →
         )
 
     born_call : (o : Option Low) (qs : AllPlaced) (m : ℕ) → CallStands Stands o qs → CallKeeps Trees o qs (child kept.Nothing m)
-    born_call None qs m st = tt
+    born_call None qs m st = absurd st
     born_call (Some body) qs m st = subst (Trees body qs.parts qs.left) (sym (child_none m)) (ih body y qs.parts qs.left born st)
 
     born_cell : (form : StateForm) (ms : List ℕ) → new.live (first ms) ≡ true → new.era (first ms) ≡ y → CellKeeps q form ms kept.Nothing
     born_cell form ms lv er = λ kn. go.cell_new (first ms) (born (first ms) lv er) lv ∙ sym (cell_none (cell_kind form))
 
-    born_work : (o : Operator) (ps : List Part) (ms : List ℕ) (b : Bool) → is_plain (operates o) ≡ b → WorkStands new y n (operates o) ps ms → Unless b (CellKeeps q (of_operator o) ms kept.Nothing)
+    born_work : (o : Operator) (ps : List Part) (ms : List ℕ) (b : Bool) → is_plain (operates o) ≡ b → WorkStands new p y n (operates o) ps ms → Unless b (CellKeeps q (of_operator o) ms kept.Nothing)
     born_work o ps ms true e st = tt
-    born_work o ps ms false e st = let next = stands_next new y n (operates o) ps ms e st in born_cell (of_operator o) ms next.live next.era
+    born_work o ps ms false e st = let next = stands_next new p y n (operates o) ps ms e st in born_cell (of_operator o) ms next.live next.era
 
     born_shape : (l : Low-F Low) (ms : List ℕ) → ShapeStands new p y n walk Stands env ms l → ShapeKeeps new p q walk Trees env ms kept.Nothing l
     born_shape (Low-F.Lit v) ms st = tt
@@ -141,7 +141,7 @@ module _ (old new : Graph) (p : Plan) (known : ℕ → Type 0) (before : ℕ →
         (subst (AllKeep walk Trees env 0 es ms) (sym (behind_none (cell_kind (of_operator o)))) (born_all es 0 ms st.0), born_work o qs.parts qs.left (is_plain (operates o)) refl st.1)
     born_shape (Low-F.Handler h es id ss) ms st =
         let qs = place_all walk env es ms in
-        let next = stands_next new y n (handles h id.0) _ qs.left refl st.2 in
+        let next = stands_next new p y n (handles h id.0) _ qs.left refl st.2 in
         (subst (AllKeep walk Trees env 0 es ms) (sym (behind_none (cell_kind (of_handler h)))) (born_all es 0 ms st.0), born_cell (of_handler h) qs.left next.live next.era)
     born_shape (Low-F.Loop l es id ss) ms st = born_all es 0 ms st.0
     born_shape (Low-F.Feedback init body) ms st =
@@ -157,7 +157,7 @@ module _ (old new : Graph) (p : Plan) (known : ℕ → Type 0) (before : ℕ →
   -- THE BEGINNING. Nothing is kept of expressions whose nodes are further ones.
   pub born_at : (n : ℕ) → BornAt n
   unfolding place Wired Keeps
-  born_at zero e y env ms born st = tt
+  born_at zero e y env ms born st = absurd st
   born_at (suc n) e y env ms born st = born_shape n (born_at n) y env born (out-Low e) ms st
 
   module _ (old_eras : ErasStandOn old everything p) where
@@ -191,7 +191,7 @@ module _ (old new : Graph) (p : Plan) (known : ℕ → Type 0) (before : ℕ →
       carry_chosen : (a b : Low) (ms : List ℕ) (k : Kept) (o : Result Bool Bad) → Chosen o (Was a env ms) (Was b env ms) → Chosen o (Is a env ms) (Is b env ms)
           → Chosen o (Stood a env ms (under_key (key.Test true) k)) (Stood b env ms (under_key (key.Test false) k))
           → Chosen o (Goes_on a env ms (under_key (key.Test true) k)) (Goes_on b env ms (under_key (key.Test false) k))
-      carry_chosen a b ms k (Err bad) w0 w1 kp = tt
+      carry_chosen a b ms k (Err bad) w0 w1 kp = absurd w0
       carry_chosen a b ms k (Ok true) w0 w1 kp = ih a x env ms (under_key (key.Test true) k) w0 w1 kp
       carry_chosen a b ms k (Ok false) w0 w1 kp = ih b x env ms (under_key (key.Test false) k) w0 w1 kp
 
@@ -225,7 +225,7 @@ module _ (old new : Graph) (p : Plan) (known : ℕ → Type 0) (before : ℕ →
           → Chosen (Ok was) (EraStands old p c a env) (EraStands old p c b env) → Chosen o (EraStands new p c a env) (EraStands new p c b env)
           → Chosen (Ok was) (Stood a env (old.members (suc c)) (under_key (key.Test true) k)) (Stood b env (old.members (suc c)) (under_key (key.Test false) k))
           → Chosen o (Goes_on a env (new.members (suc c)) (under_key (key.Test true) k)) (Goes_on b env (new.members (suc c)) (under_key (key.Test false) k))
-      carry_tested a b c k was (Err bad) v0 v1 l0 l1 t0 t1 chose s0 s1 kp = tt
+      carry_tested a b c k was (Err bad) v0 v1 l0 l1 t0 t1 chose s0 s1 kp = absurd s1
       carry_tested a b c k was (Ok is) v0 v1 l0 l1 t0 t1 chose s0 s1 kp = carry_era a b c k was is v0 v1 l0 l1 t0 t1 chose s0 s1 kp
 
       carry_switch : (a b : Low) (h : Part) (ms : List ℕ) (k : Kept) → SwitchStands old x n Was a b env h ms → SwitchStands new x n Is a b env h ms
@@ -245,10 +245,10 @@ module _ (old new : Graph) (p : Plan) (known : ℕ → Type 0) (before : ℕ →
       carry_cell : (form : StateForm) (ms : List ℕ) (k : Kept) → old.live (first ms) ≡ true → new.live (first ms) ≡ true → CellKeeps asked form ms k → CellKeeps q form ms k
       carry_cell form ms k v0 v1 kp = λ kn. go.cell (first ms) v0 v1 ∙ kp tt
 
-      carry_work : (o : Operator) (ps : List Part) (ms : List ℕ) (k : Kept) (b : Bool) → is_plain (operates o) ≡ b → WorkStands old x n (operates o) ps ms → WorkStands new x n (operates o) ps ms
+      carry_work : (o : Operator) (ps : List Part) (ms : List ℕ) (k : Kept) (b : Bool) → is_plain (operates o) ≡ b → WorkStands old p x n (operates o) ps ms → WorkStands new p x n (operates o) ps ms
           → Unless b (CellKeeps asked (of_operator o) ms k) → Unless b (CellKeeps q (of_operator o) ms k)
       carry_work o ps ms k true e s0 s1 kp = tt
-      carry_work o ps ms k false e s0 s1 kp = carry_cell (of_operator o) ms k (stands_next old x n (operates o) ps ms e s0).live (stands_next new x n (operates o) ps ms e s1).live kp
+      carry_work o ps ms k false e s0 s1 kp = carry_cell (of_operator o) ms k (stands_next old p x n (operates o) ps ms e s0).live (stands_next new p x n (operates o) ps ms e s1).live kp
 
       carry_shape : (l : Low-F Low) (ms : List ℕ) (k : Kept) → ShapeStands old p x n step Was env ms l → ShapeStands new p x n step Is env ms l
           → ShapeKeeps old p asked step Stood env ms k l → ShapeKeeps new p q step Goes_on env ms k l
@@ -268,7 +268,7 @@ module _ (old new : Graph) (p : Plan) (known : ℕ → Type 0) (before : ℕ →
       carry_shape (Low-F.Handler h es id ss) ms k s0 s1 kp =
           let qs = place_all step env es ms in (
             carry_all es 0 ms (behind_cell (of_handler h) k) s0.0 s1.0 kp.0,
-            carry_cell (of_handler h) qs.left k (stands_next old x n (handles h id.0) _ qs.left refl s0.2).live (stands_next new x n (handles h id.0) _ qs.left refl s1.2).live kp.1,
+            carry_cell (of_handler h) qs.left k (stands_next old p x n (handles h id.0) _ qs.left refl s0.2).live (stands_next new p x n (handles h id.0) _ qs.left refl s1.2).live kp.1,
           )
       carry_shape (Low-F.Loop l es id ss) ms k s0 s1 kp = carry_all es 0 ms k s0.0 s1.0 kp
       carry_shape (Low-F.Feedback init body) ms k s0 s1 kp =
@@ -283,5 +283,5 @@ module _ (old new : Graph) (p : Plan) (known : ℕ → Type 0) (before : ℕ →
     -- THE CARRY. The tree for which a graph stood is what its known nodes had before that go on, and nothing of those that are new.
     pub carry : (n : ℕ) → CarriesAt n
     unfolding place Wired Keeps
-    carry zero e x env ms k w0 w1 kp = tt
+    carry zero e x env ms k w0 w1 kp = absurd w0
     carry (suc n) e x env ms k w0 w1 kp = carry_shape n (carry n) x env (out-Low e) ms k w0 w1 kp

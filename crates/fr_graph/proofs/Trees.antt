@@ -33,7 +33,7 @@ use Rattle.fr_graph.specs.Keeps.{Asked, AllKeep, SwitchKeeps, CallKeeps, CellKee
 use Rattle.fr_graph.specs.Known.{Reads, IsClosed, IsKnown, Have, IsWatched, IsWorked, SettledOn, ErasStandOn, latch, IsLatched, HasValue, HasEnded}
 use Rattle.fr_graph.specs.Sound.{Sound, IsPlanOf, KernelsMean}
 use Rattle.fr_graph.proofs.Parts.{AllKnown, have_at, have_append, have_length, have_values}
-use Rattle.fr_graph.proofs.Works.{stands_next, node_value, rule_on, work_value}
+use Rattle.fr_graph.proofs.Works.{operator_value, prompt_line, stands_next, node_value, rule_on, work_value}
 use Rattle.fr_graph.proofs.Calls.{handler_value, handler_next}
 use Rattle.fr_graph.proofs.Cells.{child_group, under_same, chose_key, CellFits, ReadsBack, reads_back, operator_fits, handler_fits}
 use Rattle.fr_graph.proofs.Inside.{erase-opens, SoundShape, sound_shape, AllSound, outer_sound, body_sound, all_length, bodies_match, low_sound}
@@ -203,7 +203,7 @@ module _ (g : Graph) (p : Plan) (pr : Program) (plan : IsPlanOf pr p) (sources :
         → Chosen o (Trees a env ms (under_key (key.Test true) (child k 1))) (Trees b env ms (under_key (key.Test false) (child k 1)))
         → child (switch_done ev vs k d (on_ok (chosen_by (f a) (f b)) o)).kept 1 ≡ tree
         → Chosen o (News a env ms (under_key (key.Test true) tree)) (News b env ms (under_key (key.Test false) tree))
-    chosen_keeps a b y ms k tree d (Err bad) sa sb st kp is = tt
+    chosen_keeps a b y ms k tree d (Err bad) sa sb st kp is = absurd st
     chosen_keeps a b y ms k tree d (Ok true) sa sb st kp is =
         let r = ih a y env vs ms (under_key (key.Test true) (child k 1)) sa en st kp in
         let below = (ev (f a) vs (under_key (key.Test true) (child k 1))).kept in
@@ -245,18 +245,18 @@ module _ (g : Graph) (p : Plan) (pr : Program) (plan : IsPlanOf pr p) (sources :
         )
 
     -- the value of a work's node
-    node_good : (wk : Work) (ps : List Part) (us : List Seen) (ms : List ℕ) (c : Option Cell) → is_plain wk ≡ false → WorkStands g x n wk ps ms → Have g everything ps us → before (first ms) ≡ c
+    node_good : (wk : Work) (ps : List Part) (us : List Seen) (ms : List ℕ) (c : Option Cell) → is_plain wk ≡ false → WorkStands g p x n wk ps ms → Have g everything ps us → before (first ms) ≡ c
         → (v : Now) × ((work_line t n wk c us).value ≡ Ok v)
     node_good wk ps us ms c plain st have is =
-        let next = stands_next g x n wk ps ms plain st in
+        let next = stands_next g p x n wk ps ms plain st in
         let good = ended.good (first ms) next.live in
         (good.now, sym (node_value g everything t sources before closed settled x n wk ps us ms c tt next have is) ∙ good.value)
 
     -- the cell of a work's node that isn't late
     node_cell : (wk : Work) (ps : List Part) (us : List Seen) (ms : List ℕ) (c : Option Cell) → is_plain wk ≡ false → is_late wk ≡ false → inputs_of wk ps ≡ ps
-        → WorkStands g x n wk ps ms → Have g everything ps us → before (first ms) ≡ c → g.cell (first ms) ≡ (work_line t n wk c us).next
+        → WorkStands g p x n wk ps ms → Have g everything ps us → before (first ms) ≡ c → g.cell (first ms) ≡ (work_line t n wk c us).next
     node_cell wk ps us ms c plain late ins st have is =
-        let next = stands_next g x n wk ps ms plain st in
+        let next = stands_next g p x n wk ps ms plain st in
         let rule : IsWorked g t (before (first ms)) (first ms) wk (inputs_of wk ps) = rule_on g everything t sources before closed settled x n (works wk) (inputs_of wk ps) (later_of wk ps) ms tt next in
         rule.cell late
         ∙ ap (λ m. (work_line t m wk (before (first ms)) (part_values g (inputs_of wk ps))).next) next.level
@@ -270,18 +270,18 @@ module _ (g : Graph) (p : Plan) (pr : Program) (plan : IsPlanOf pr p) (sources :
       cell : Unless plain (g.cell (first ms) ≡ next)
 
     prompt_kept : (o : Operator) (ps : List Part) (us : List Seen) (ms : List ℕ) (c : Option Cell) → is_plain (operates o) ≡ false → is_late (operates o) ≡ false
-        → WorkStands g x n (operates o) ps ms → Have g everything ps us → before (first ms) ≡ c → Kept_by (of_operator o) (is_plain (operates o)) ms (state_now (of_operator o) c us no_call).next
+        → WorkStands g p x n (operates o) ps ms → Have g everything ps us → before (first ms) ≡ c → Kept_by (of_operator o) (is_plain (operates o)) ms (state_now (of_operator o) c us no_call).next
     prompt_kept o ps us ms c plain late st have is =
         let good = node_good (operates o) ps us ms c plain st have is in
         record {
-          fits = operator_fits o c us late good.0 good.1;
-          cell = subst (λ b. Unless b (g.cell (first ms) ≡ (state_now (of_operator o) c us no_call).next)) (sym plain) (node_cell (operates o) ps us ms c plain late (prompt_inputs o ps late) st have is);
+          fits = operator_fits o c us late good.0 (sym (operator_value o c us) ∙ good.1);
+          cell = subst (λ b. Unless b (g.cell (first ms) ≡ (state_now (of_operator o) c us no_call).next)) (sym plain) (node_cell (operates o) ps us ms c plain late (prompt_inputs o ps late) st have is ∙ ap (λ l. l.next) (prompt_line o c us late));
         }
 
     late_kept : (o : Operator) (ps : List Part) (us : List Seen) (ms : List ℕ) (c : Option Cell) → is_plain (operates o) ≡ false → is_late (operates o) ≡ true → operator_takes o (length ps) ≡ true
-        → WorkStands g x n (operates o) ps ms → Have g everything ps us → Kept_by (of_operator o) (is_plain (operates o)) ms (state_now (of_operator o) c us no_call).next
+        → WorkStands g p x n (operates o) ps ms → Have g everything ps us → Kept_by (of_operator o) (is_plain (operates o)) ms (state_now (of_operator o) c us no_call).next
     late_kept o ps us ms c plain late takes st have =
-        let next = stands_next g x n (operates o) ps ms plain st in
+        let next = stands_next g p x n (operates o) ps ms plain st in
         let last = late_there o ps late takes in
         let latched = ended.latched (first ms) (operates o) last.0 next.live next.kind late (next.later ∙ last.2) in
         let same : part_value g last.0 ≡ part us (late_part o)
@@ -294,7 +294,7 @@ module _ (g : Graph) (p : Plan) (pr : Program) (plan : IsPlanOf pr p) (sources :
         }
 
     operator_kept : (o : Operator) (ps : List Part) (us : List Seen) (ms : List ℕ) (c : Option Cell) → operator_takes o (length ps) ≡ true
-        → WorkStands g x n (operates o) ps ms → Have g everything ps us → Unless (is_plain (operates o)) (before (first ms) ≡ c)
+        → WorkStands g p x n (operates o) ps ms → Have g everything ps us → Unless (is_plain (operates o)) (before (first ms) ≡ c)
         → Kept_by (of_operator o) (is_plain (operates o)) ms (state_now (of_operator o) c us no_call).next
     operator_kept (operator.Prim q) ps us ms c takes st have is = record { fits = refl; cell = tt }
     operator_kept operator.MergeE ps us ms c takes st have is = prompt_kept operator.MergeE ps us ms c refl refl st have is
@@ -316,7 +316,7 @@ module _ (g : Graph) (p : Plan) (pr : Program) (plan : IsPlanOf pr p) (sources :
     call_keeps : (o : Option Low) (qs : AllPlaced) (k : Kept) (m : ℕ) (ps : Parts) → length ps.kepts ≡ m → Have g everything qs.parts ps.values → length qs.parts ≡ m
         → ((body : Low) → o ≡ Some body → Sound t m body) → CallStands Stands o qs → CallKeeps Trees o qs (child k m)
         → CallKeeps News o qs (child (call_done ev k m ps (option_map f o)).kept m)
-    call_keeps None qs k m ps count h len s st kp = tt
+    call_keeps None qs k m ps count h len s st kp = absurd st
     call_keeps (Some body) qs k m ps count h len s st kp =
         let d = ev (f body) ps.values (child k m) in
         subst (News body qs.parts qs.left) (sym (last_child ps.kepts d.kept m count)) (ih body x qs.parts ps.values qs.left (child k m) (subst (λ j. Sound t j body) (sym len) (s body refl)) h st kp)
@@ -463,7 +463,7 @@ module _ (g : Graph) (p : Plan) (pr : Program) (plan : IsPlanOf pr p) (sources :
   -- THE TREES. Where an instant has ended, the graph stands for the tree that evaluating afresh keeps.
   pub trees_on : (n : ℕ) → n ≤ 2001 → StandsAt n
   unfolding place eval_to Wired Keeps
-  trees_on zero few e x env vs ms k s en st kp = tt
+  trees_on zero few e x env vs ms k s en st kp = absurd st
   trees_on (suc n) few e x env vs ms k s en st kp =
       let below : n ≤ 2001 = omega (arith, few) in
       subst (λ c. ShapeKeeps g p new (place p n) (Keeps g p new n) env ms (eval_to (suc n) w c vs k).kept (out-Low e)) (sym (erase-opens t.kernels e))

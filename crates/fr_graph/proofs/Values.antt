@@ -34,7 +34,7 @@ use Rattle.fr_graph.specs.Keeps.{Asked, AllKeep, SwitchKeeps, CallKeeps, CellKee
 use Rattle.fr_graph.specs.Known.{Reads, IsClosed, IsKnown, Have, IsWatched, IsWorked, Rule, SettledOn, ErasStandOn}
 use Rattle.fr_graph.specs.Sound.{Sound, IsPlanOf, KernelsMean}
 use Rattle.fr_graph.proofs.Parts.{AllKnown, read_known, have_at, have_append, have_length}
-use Rattle.fr_graph.proofs.Works.{beside_value, rule_on, inputs_on, work_value}
+use Rattle.fr_graph.proofs.Works.{beside_value, operator_value, rule_on, inputs_on, work_value}
 use Rattle.fr_graph.proofs.Calls.{handler_value, loop_value}
 use Rattle.fr_graph.proofs.Inside.{erase-opens, SoundShape, sound_shape, AllSound, outer_sound, body_sound, all_length, bodies_match, low_sound}
 
@@ -108,7 +108,7 @@ module _ (g : Graph) (known : ℕ → Type 0) (p : Plan) (pr : Program) (plan : 
         → Chosen o (Stands a env ms) (Stands b env ms)
         → Chosen o (Trees a env ms (under_key (key.Test true) (child k 1))) (Trees b env ms (under_key (key.Test false) (child k 1)))
         → Agrees (place_chosen walk a b env ms o) (switch_done ev vs k d (on_ok (chosen_by (f a) (f b)) o))
-    chosen_on a b ms k d (Err bad) sa sb st kp = λ kn. refl
+    chosen_on a b ms k d (Err bad) sa sb st kp = absurd st
     chosen_on a b ms k d (Ok true) sa sb st kp = ih a x env vs ms (under_key (key.Test true) (child k 1)) sa en st kp
     chosen_on a b ms k d (Ok false) sa sb st kp = ih b x env vs ms (under_key (key.Test false) (child k 1)) sb en st kp
 
@@ -155,7 +155,7 @@ module _ (g : Graph) (known : ℕ → Type 0) (p : Plan) (pr : Program) (plan : 
         → ((body : Low) → o ≡ Some body → Sound t m body)
         → CallStands Stands o qs → CallKeeps Trees o qs (child k m)
         → Agrees (place_call walk o qs) (call_done ev k m ps (option_map f o))
-    call_on None qs k m ps h len s st kp = λ kn. refl
+    call_on None qs k m ps h len s st kp = absurd st
     call_on (Some body) qs k m ps h len s st kp = ih body x qs.parts ps.values qs.left (child k m) (subst (λ j. Sound t j body) (sym len) (s body refl)) h st kp
 
     -- one case for each shape
@@ -197,6 +197,7 @@ module _ (g : Graph) (known : ℕ → Type 0) (p : Plan) (pr : Program) (plan : 
         let have = all_on es 0 ms before_parts (outer_sound t (length env) es s.inside) st.0 kp.0 in
         work_value g known t sources before closed settled p x n (operates o) qs.parts ps.values qs.left (form_cell (of_operator o) k) refl st.1 have
         (λ e. subst (λ b. Unless b (CellKeeps q (of_operator o) qs.left k)) e kp.1) kn
+        ∙ operator_value o (form_cell (of_operator o) k) ps.values
         ∙ opens (core.Operator o (map f es)) (Core-F.Operator o (map f es)) k (outs-Operator o (map f es))
     shape_on (Low-F.Handler h es id ss) ms k s st kp = λ kn.
         let qs = place_all walk env es ms in
@@ -269,7 +270,7 @@ module _ (g : Graph) (known : ℕ → Type 0) (p : Plan) (pr : Program) (plan : 
   -- THE VALUES. Where the known nodes of a graph are settled and the eras of known watches stand, what stands for an expression and is known has the value of evaluating it afresh.
   pub values_on : (n : ℕ) → n ≤ 2001 → AgreesAt n
   unfolding place eval_to Wired Keeps
-  values_on zero few e x env vs ms k s en st kp = λ kn. refl
+  values_on zero few e x env vs ms k s en st kp = absurd st
   values_on (suc n) few e x env vs ms k s en st kp =
       let below : n ≤ 2001 = omega (arith, few) in
       subst (λ c. Agrees (place_shape p n (place p n) env ms (out-Low e)) (eval_to (suc n) w c vs k)) (sym (erase-opens t.kernels e))

@@ -7,11 +7,11 @@ use Rattle.fr_core.specs.declared.core_form.Operator.{Operator}
 use Rattle.fr_core.specs.declared.core_form.Operator.TheVariants as operator
 use Rattle.fr_meaning.specs.Words.{Seen, occurs, part}
 use Rattle.fr_meaning.specs.Cells.{Cell}
-use Rattle.fr_meaning.specs.States.{beside, base_of, plain_or_bad, occurrence, state_next, of_operator}
+use Rattle.fr_meaning.specs.States.{beside, base_of, plain_or_bad, occurrence, state_next, of_operator, no_call, state_now}
 use Rattle.fr_kernel.specs.Kernels.{Kernels}
-use Rattle.fr_graph.specs.Graph.{Part, steady, signal, Work, operates, handles, loops, runs, feeds, Kind, works, Graph, part_value, part_values, work_line, is_plain}
+use Rattle.fr_graph.specs.Graph.{Part, steady, signal, Work, operates, handles, loops, runs, feeds, Kind, works, Graph, part_value, part_values, IsClean, operator_early, work_line, is_plain, is_late}
 use Rattle.fr_graph.specs.Walk.{Plan, first, rest, by_value, by_next, all_steady, steady_values, place_work}
-use Rattle.fr_graph.specs.Wired.{IsNext, inputs_of, later_of, Unless, WorkStands}
+use Rattle.fr_graph.specs.Wired.{IsNext, inputs_of, later_of, Either, WorkStands}
 use Rattle.fr_graph.specs.Known.{Reads, IsClosed, IsKnown, Have, IsWorked, Rule, SettledOn}
 use Rattle.fr_graph.proofs.Parts.{AllKnown, read_known, have_values, have_steady}
 
@@ -23,6 +23,26 @@ both_true false b h = cc
 pub beside_value : (v : Seen) (r : Result Cell Bad) → (beside v r).value ≡ v
 beside_value v (Err b) = refl
 beside_value v (Ok c) = refl
+
+-- an operator's value is there before its cell takes its last part's
+pub operator_value : (o : Operator) (c : Option Cell) (xs : List Seen) → (operator_early o c xs).value ≡ (state_now (of_operator o) c xs no_call).value
+operator_value operator.Delay c xs = sym (beside_value (plain_or_bad (base_of c (part xs 0))) (state_next (of_operator operator.Delay) xs))
+operator_value operator.DelayE c xs = sym (beside_value (occurs (occurrence c)) (state_next (of_operator operator.DelayE) xs))
+operator_value (operator.Prim p) c xs = refl
+operator_value operator.MergeE c xs = refl
+operator_value operator.Hold c xs = refl
+operator_value operator.Changes c xs = refl
+operator_value operator.OnceE c xs = refl
+
+-- the line of an operator that isn't late is that of the table
+pub prompt_line : (o : Operator) (c : Option Cell) (xs : List Seen) → is_late (operates o) ≡ false → operator_early o c xs ≡ state_now (of_operator o) c xs no_call
+prompt_line operator.Delay c xs e = absurd (false≢true (sym e))
+prompt_line operator.DelayE c xs e = absurd (false≢true (sym e))
+prompt_line (operator.Prim p) c xs e = refl
+prompt_line operator.MergeE c xs e = refl
+prompt_line operator.Hold c xs e = refl
+prompt_line operator.Changes c xs e = refl
+prompt_line operator.OnceE c xs e = refl
 
 -- a plain work has no cell
 plain_any : (t : Kernels) (n : ℕ) (w : Work) (c d : Option Cell) (xs : List Seen) → is_plain w ≡ true → (work_line t n w c xs).value ≡ (work_line t n w d xs).value
@@ -39,8 +59,8 @@ plain_any t n (runs id) c d xs h = refl
 plain_any t n feeds c d xs h = absurd (false≢true h)
 
 -- a work that isn't plain has a node
-pub stands_next : (g : Graph) (x n : ℕ) (w : Work) (ps : List Part) (ms : List ℕ) → is_plain w ≡ false → WorkStands g x n w ps ms → IsNext g x n (works w) (inputs_of w ps) (later_of w ps) ms
-stands_next g x n w ps ms plain st = subst (λ b. Unless (b && all_steady ps) (IsNext g x n (works w) (inputs_of w ps) (later_of w ps) ms)) plain st
+pub stands_next : (g : Graph) (p : Plan) (x n : ℕ) (w : Work) (ps : List Part) (ms : List ℕ) → is_plain w ≡ false → WorkStands g p x n w ps ms → IsNext g x n (works w) (inputs_of w ps) (later_of w ps) ms
+stands_next g p x n w ps ms plain st = subst (λ b. Either (b && all_steady ps) (IsClean (work_line p.table n w None (steady_values ps))) (IsNext g x n (works w) (inputs_of w ps) (later_of w ps) ms)) plain st
 
 module _ (g : Graph) (known : ℕ → Type 0) where
   -- a work's value by those of its inputs is that by the values of all its parts
@@ -50,8 +70,8 @@ module _ (g : Graph) (known : ℕ → Type 0) where
   input_line t n (operates operator.Delay) c [] (v ∷ vs) h kn = absurd h
   input_line t n (operates operator.Delay) c (p ∷ ps) [] h kn = absurd h
   input_line t n (operates operator.Delay) c (p ∷ ps) (v ∷ vs) h kn =
-      beside_value (plain_or_bad (base_of c (part_value g p))) (state_next (of_operator operator.Delay) (part_value g p ∷ [])) ∙ ap (λ x. plain_or_bad (base_of c x)) (h.0 kn.0) ∙ sym (beside_value (plain_or_bad (base_of c v)) (state_next (of_operator operator.Delay) (v ∷ vs)))
-  input_line t n (operates operator.DelayE) c ps vs h kn = beside_value (occurs (occurrence c)) (state_next (of_operator operator.DelayE) []) ∙ sym (beside_value (occurs (occurrence c)) (state_next (of_operator operator.DelayE) vs))
+      ap (λ x. plain_or_bad (base_of c x)) (h.0 kn.0)
+  input_line t n (operates operator.DelayE) c ps vs h kn = refl
   input_line t n (operates (operator.Prim p)) c ps vs h kn = ap (λ xs. (work_line t n (operates (operator.Prim p)) c xs).value) (have_values g known ps vs h kn)
   input_line t n (operates operator.MergeE) c ps vs h kn = ap (λ xs. (work_line t n (operates operator.MergeE) c xs).value) (have_values g known ps vs h kn)
   input_line t n (operates operator.Hold) c ps vs h kn = ap (λ xs. (work_line t n (operates operator.Hold) c xs).value) (have_values g known ps vs h kn)
@@ -84,7 +104,7 @@ module _ (g : Graph) (known : ℕ → Type 0) (t : Kernels) (sources : List Now)
       ∙ input_line g known t n w c ps vs h (inputs_on x n (works w) (inputs_of w ps) (later_of w ps) ms kn st)
 
   pub work_value : (p : Plan) (x n : ℕ) (w : Work) (ps : List Part) (vs : List Seen) (ms : List ℕ) (c : Option Cell) → p.table ≡ t
-      → WorkStands g x n w ps ms → Have g known ps vs → (is_plain w ≡ false → known (first ms) → before (first ms) ≡ c)
+      → WorkStands g p x n w ps ms → Have g known ps vs → (is_plain w ≡ false → known (first ms) → before (first ms) ≡ c)
       → IsKnown known (place_work p n w ps ms).part → part_value g (place_work p n w ps ms).part ≡ (work_line t n w c vs).value
   work_value p x n w ps vs ms c same st h cell kn = by_steady (is_plain w && all_steady ps) refl st kn
     where
@@ -93,7 +113,7 @@ module _ (g : Graph) (known : ℕ → Type 0) (t : Kernels) (sources : List Now)
       by_plain false e kn st = node_value x n w ps vs ms c kn st h (cell e kn)
 
       by_steady : (b : Bool) → is_plain w && all_steady ps ≡ b
-          → Unless b (IsNext g x n (works w) (inputs_of w ps) (later_of w ps) ms)
+          → Either b (IsClean (work_line p.table n w None (steady_values ps))) (IsNext g x n (works w) (inputs_of w ps) (later_of w ps) ms)
           → IsKnown known (if b then by_value (work_line p.table n w None (steady_values ps)).value ms else by_next ms).part
           → part_value g (if b then by_value (work_line p.table n w None (steady_values ps)).value ms else by_next ms).part ≡ (work_line t n w c vs).value
       by_steady true e st kn =

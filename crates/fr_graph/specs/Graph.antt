@@ -1,5 +1,5 @@
 -- The graph of signals, as functions of a node's number.
-use Rattle.std.specs.Prelude.{ℕ, suc, Bool, true, false, ◌&&◌, List, [], ◌∷◌, ◌++◌, map, take, drop, slice_get, Option, Some, None, Result, Ok, Err}
+use Rattle.std.specs.Prelude.{◌≡◌, ℕ, suc, Bool, true, false, ◌&&◌, List, [], ◌∷◌, ◌++◌, map, take, drop, slice_get, Option, Some, None, Result, Ok, Err}
 use Rattle.fr_value.specs.declared.now.Bad.{Bad}
 use Rattle.fr_value.specs.declared.now.Bad.TheVariants.{Deep}
 use Rattle.fr_core.specs.declared.core_form.Core.{Core}
@@ -10,9 +10,9 @@ use Rattle.fr_core.specs.declared.core_form.Loop.{Loop}
 use Rattle.fr_core.specs.declared.kept.Kept.TheVariants as kept
 use Rattle.fr_core.specs.declared.lowered.Low.{Low}
 use Rattle.fr_core.specs.Shapes.{handler_parts}
-use Rattle.fr_meaning.specs.Words.{Seen, Env, Done, part}
+use Rattle.fr_meaning.specs.Words.{Seen, Env, Done, own, part}
 use Rattle.fr_meaning.specs.Cells.{Cell}
-use Rattle.fr_meaning.specs.States.{Line, gives, Call, of_operator, of_handler, fed, no_call, state_now}
+use Rattle.fr_meaning.specs.States.{Line, gives, Call, of_operator, of_handler, fed, base_of, refusal_in, refused_by, early_value, no_call, state_now}
 use Rattle.fr_meaning.specs.Evaluation.{World, Turns, all_turns, rounds, eval_to}
 use Rattle.fr_kernel.specs.Kernels.{Kernels, Kernel, world_at}
 use Rattle.fr_kernel.specs.Placed.{scheme_for}
@@ -79,13 +79,19 @@ turns_line ts = record { value = ts.value; next = None; cost = ts.cost; inner = 
 abbrev pub done_line : Done → Line
 done_line d = record { value = d.value; next = None; cost = d.cost; inner = d.first; refusal = None }
 
--- the line of a work over the values of its inputs, where so many levels are left below its expression
+-- the line of an operator before its cell takes its last part's value
+abbrev pub operator_early : Operator → Option Cell → List Seen → Line
+operator_early operator.Delay cell xs = gives (early_value (of_operator operator.Delay) cell xs) None
+operator_early operator.DelayE cell xs = gives (early_value (of_operator operator.DelayE) cell xs) None
+operator_early o cell xs = state_now (of_operator o) cell xs no_call
+
+-- the line of a work over the values of its inputs, where so many levels are left below its expression; what a late work's cell takes isn't in it
 abbrev pub work_line : Kernels → ℕ → Work → Option Cell → List Seen → Line
-work_line t n (operates o) cell xs = state_now (of_operator o) cell xs no_call
+work_line t n (operates o) cell xs = operator_early o cell xs
 work_line t n (handles h id) cell xs = state_now (of_handler h) cell (take (handler_parts h) xs) (kernel_call t n id (drop (handler_parts h) xs))
 work_line t n (loops l id) cell xs = turns_line (all_turns (kernel_run t n id (drop 2 xs)) (part xs 0) (rounds l (part xs 1)))
 work_line t n (runs id) cell xs = done_line (kernel_run t (suc n) id xs [])
-work_line t n feeds cell xs = gives (fed cell (part xs 0)) None
+work_line t n feeds cell xs = refused_by (refusal_in (base_of cell (part xs 0))) (gives (fed cell (part xs 0)) None)
 
 -- a work takes its last part's value behind the instant
 abbrev pub is_late : Work → Bool
@@ -100,3 +106,9 @@ is_plain (operates (operator.Prim p)) = true
 is_plain (loops l id) = true
 is_plain (runs id) = true
 is_plain w = false
+
+-- a line has a value, and neither its handler's call errs nor does it refuse a part
+pub record IsClean (l : Line) : Type 0 where
+  pub value : own l.value ≡ None
+  pub inner : l.inner ≡ None
+  pub refusal : l.refusal ≡ None

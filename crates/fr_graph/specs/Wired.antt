@@ -8,8 +8,8 @@ use Rattle.fr_core.specs.declared.lowered.Low.TheOpen.{Low-F}
 use Rattle.fr_core.specs.declared.lowered.Slot.{Slot}
 use Rattle.fr_core.specs.declared.lowered.Slot.TheVariants as slot
 use Rattle.fr_meaning.specs.Words.{test_of}
-use Rattle.fr_graph.specs.Graph.{Part, steady, signal, Work, operates, handles, loops, runs, feeds, Kind, source, works, watch, result, Graph, is_plain}
-use Rattle.fr_graph.specs.Walk.{Plan, first, rest, Walk, Placed, AllPlaced, place_all, all_steady, slot_parts, low_body, place}
+use Rattle.fr_graph.specs.Graph.{Part, steady, signal, Work, operates, handles, loops, runs, feeds, Kind, source, works, watch, result, Graph, IsClean, work_line, is_plain}
+use Rattle.fr_graph.specs.Walk.{Plan, first, rest, Walk, Placed, AllPlaced, place_all, all_steady, steady_values, slot_parts, low_body, place}
 
 -- a node of this era and kind, with these inputs and so many levels below its expression, is the next member
 pub record IsNext (g : Graph) (x n : ℕ) (k : Kind) (ins : List Part) (behind : Option Part) (ms : List ℕ) : Type 0 where
@@ -46,9 +46,13 @@ abbrev pub Unless : Bool → Type 0 → Type 0
 Unless true A = Unit {0}
 Unless false A = A
 
--- a work's node is the next member, unless it is a value
-abbrev pub WorkStands : Graph → ℕ → ℕ → Work → List Part → List ℕ → Type 0
-WorkStands g x n w ps ms = Unless (is_plain w && all_steady ps) (IsNext g x n (works w) (inputs_of w ps) (later_of w ps) ms)
+-- a work that is a value has a clean line, and the node of any other is the next member
+abbrev pub Either : Bool → Type 0 → Type 0 → Type 0
+Either true A B = A
+Either false A B = B
+
+abbrev pub WorkStands : Graph → Plan → ℕ → ℕ → Work → List Part → List ℕ → Type 0
+WorkStands g p x n w ps ms = Either (is_plain w && all_steady ps) (IsClean (work_line p.table n w None (steady_values ps))) (IsNext g x n (works w) (inputs_of w ps) (later_of w ps) ms)
 
 -- the node of a source
 pub record IsSource (g : Graph) (p : Plan) (s : ℕ) : Type 0 where
@@ -70,9 +74,9 @@ abbrev pub AllStand : Walk → Standing → List Part → List Low → List ℕ 
 AllStand walk S env [] ms = Unit {0}
 AllStand walk S env (e ∷ es) ms = S e env ms × AllStand walk S env es (walk e env ms).left
 
--- a fact of the first or of the second, by what a test gives
+-- a fact of the first or of the second, by what a test gives, which it does
 abbrev pub Chosen : Result Bool Bad → Type 0 → Type 0 → Type 0
-Chosen (Err bad) A B = Unit {0}
+Chosen (Err bad) A B = ⊥
 Chosen (Ok true) A B = A
 Chosen (Ok false) A B = B
 
@@ -81,9 +85,9 @@ abbrev pub SwitchStands : Graph → ℕ → ℕ → Standing → Low → Low →
 SwitchStands g x n S a b env (steady v) ms = Chosen (test_of v) (S a env ms) (S b env ms)
 SwitchStands g x n S a b env (signal m) ms = AreNext g x n a b env m ms
 
--- a call behind its arguments
+-- a call behind its arguments: there is a function of so many parameters
 abbrev pub CallStands : Standing → Option Low → AllPlaced → Type 0
-CallStands S None q = Unit {0}
+CallStands S None q = ⊥
 CallStands S (Some body) q = S body q.parts q.left
 
 -- one case for each shape
@@ -94,22 +98,22 @@ ShapeStands g p x n walk S env ms (Low-F.Source s) = IsSource g p s.0
 ShapeStands g p x n walk S env ms (Low-F.Let es body) = let q = place_all walk env es ms in AllStand walk S env es ms × S body (env ++ q.parts) q.left
 ShapeStands g p x n walk S env ms (Low-F.If site test a b) = let t = walk test env ms in S test env ms × SwitchStands g x n S a b env t.part t.left
 ShapeStands g p x n walk S env ms (Low-F.Apply f es) = AllStand walk S env es ms × CallStands S (low_body (slice_get p.functions f.0) (length es)) (place_all walk env es ms)
-ShapeStands g p x n walk S env ms (Low-F.Operator o es) = let q = place_all walk env es ms in AllStand walk S env es ms × WorkStands g x n (operates o) q.parts q.left
+ShapeStands g p x n walk S env ms (Low-F.Operator o es) = let q = place_all walk env es ms in AllStand walk S env es ms × WorkStands g p x n (operates o) q.parts q.left
 ShapeStands g p x n walk S env ms (Low-F.Handler h es id ss) =
     let q = place_all walk env es ms in
-    AllStand walk S env es ms × SlotsStand g p ss × WorkStands g x n (handles h id.0) (q.parts ++ slot_parts p env ss) q.left
+    AllStand walk S env es ms × SlotsStand g p ss × WorkStands g p x n (handles h id.0) (q.parts ++ slot_parts p env ss) q.left
 ShapeStands g p x n walk S env ms (Low-F.Loop l es id ss) =
     let q = place_all walk env es ms in
-    AllStand walk S env es ms × SlotsStand g p ss × WorkStands g x n (loops l id.0) (q.parts ++ slot_parts p env ss) q.left
+    AllStand walk S env es ms × SlotsStand g p ss × WorkStands g p x n (loops l id.0) (q.parts ++ slot_parts p env ss) q.left
 ShapeStands g p x n walk S env ms (Low-F.Feedback init body) =
     let i = walk init env ms in
     let inside = env ++ signal (first i.left) ∷ [] in
     S init env ms × S body inside (rest i.left) × IsNext g x n (works feeds) (i.part ∷ []) (Some (walk body inside (rest i.left)).part) i.left
-ShapeStands g p x n walk S env ms (Low-F.Collapse id ss) = SlotsStand g p ss × WorkStands g x n (runs id.0) (slot_parts p env ss) ms
+ShapeStands g p x n walk S env ms (Low-F.Collapse id ss) = SlotsStand g p ss × WorkStands g p x n (runs id.0) (slot_parts p env ss) ms
 
--- the members from here on are those of an expression in an era; what is in the eras of watches isn't asked
+-- the members from here on are those of an expression in an era, and what has a value has it without an error; what is in the eras of watches isn't asked
 unfoldable pub Wired : Graph → Plan → ℕ → ℕ → Standing
-Wired g p x zero e env ms = Unit {0}
+Wired g p x zero e env ms = ⊥
 Wired g p x (suc n) e env ms = ShapeStands g p x n (place p n) (Wired g p x n) env ms (out-Low e)
 
 -- the era of a watch has the members of what it chose, each of them used, and its result has their part
