@@ -19,7 +19,7 @@ use Rattle.fr_core.specs.declared.kept.Kept.TheVariants as kept
 use Rattle.fr_core.specs.declared.lowered.Low.{Low, out-Low, map-Low}
 use Rattle.fr_core.specs.declared.lowered.Low.TheOpen.{Low-F}
 use Rattle.fr_core.specs.declared.program.Program.{Program}
-use Rattle.fr_meaning.specs.Words.{Seen, Env, Done, part, on_ok, test_of}
+use Rattle.fr_meaning.specs.Words.{Seen, Env, Done, own, part, on_ok, test_of}
 use Rattle.fr_meaning.specs.Cells.{Cell, child, with_cell, under_key, keeps_datum}
 use Rattle.fr_meaning.specs.States.{StateForm, of_operator, of_handler, of_feedback, cell_kind, fed, no_call, state_now, early_value, beside, state_next, datum_next, payload_next}
 use Rattle.fr_meaning.specs.Evaluation.{World, world_of, Ev, Parts, parts, chosen_by, switch_done, call_done, body_for, handler, form_cell, behind_cell, layer, eval_to}
@@ -30,10 +30,10 @@ use Rattle.fr_graph.specs.Graph.{Part, steady, signal, Work, operates, handles, 
 use Rattle.fr_graph.specs.Walk.{Plan, first, rest, Walk, Placed, AllPlaced, place_all, place_call, variable_part, slot_parts, low_body, place}
 use Rattle.fr_graph.specs.Wired.{IsNext, Unless, WorkStands, inputs_of, later_of, AllStand, Chosen, SwitchStands, CallStands, ShapeStands, Wired, EraStands}
 use Rattle.fr_graph.specs.Keeps.{Asked, AllKeep, SwitchKeeps, CallKeeps, CellKeeps, ShapeKeeps, Keeps, asks_nothing, everything, HasKey, StandsFor}
-use Rattle.fr_graph.specs.Known.{Reads, IsClosed, IsKnown, Have, IsWatched, IsWorked, SettledOn, ErasStandOn, latch, IsLatched, HasValue, HasEnded}
+use Rattle.fr_graph.specs.Known.{Reads, IsClosed, IsKnown, Have, IsWatched, IsWorked, SettledOn, ErasStandOn, latch, IsLatched, HasEnded}
 use Rattle.fr_graph.specs.Sound.{Sound, IsPlanOf, KernelsMean}
 use Rattle.fr_graph.proofs.Parts.{AllKnown, have_at, have_append, have_length, have_values}
-use Rattle.fr_graph.proofs.Works.{operator_value, prompt_line, stands_next, node_value, rule_on, work_value}
+use Rattle.fr_graph.proofs.Works.{operator_value, prompt_line, stands_next, node_line, node_rule, rule_on, work_clean}
 use Rattle.fr_graph.proofs.Calls.{handler_value, handler_next}
 use Rattle.fr_graph.proofs.Cells.{child_group, under_same, chose_key, CellFits, ReadsBack, reads_back, operator_fits, handler_fits}
 use Rattle.fr_graph.proofs.Inside.{erase-opens, SoundShape, sound_shape, AllSound, outer_sound, body_sound, all_length, bodies_match, low_sound}
@@ -114,15 +114,9 @@ late_there operator.Hold ps late e = absurd (false≢true late)
 late_there operator.Changes ps late e = absurd (false≢true late)
 late_there operator.OnceE ps late e = absurd (false≢true late)
 
--- inputs of a work that isn't late are all its parts
-prompt_inputs : (o : Operator) (ps : List Part) → is_late (operates o) ≡ false → inputs_of (operates o) ps ≡ ps
-prompt_inputs operator.Delay ps e = absurd (false≢true (sym e))
-prompt_inputs operator.DelayE ps e = absurd (false≢true (sym e))
-prompt_inputs (operator.Prim p) ps e = refl
-prompt_inputs operator.MergeE ps e = refl
-prompt_inputs operator.Hold ps e = refl
-prompt_inputs operator.Changes ps e = refl
-prompt_inputs operator.OnceE ps e = refl
+has_value : (v : Seen) → own v ≡ None → (n : Now) × (v ≡ Ok n)
+has_value (Ok n) h = (n, refl)
+has_value (Err b) h = absurd cc
 
 module _ (g : Graph) (p : Plan) (pr : Program) (plan : IsPlanOf pr p) (sources : List Now) (before : ℕ → Option Cell)
     (settled : SettledOn g everything p.table sources before) (eras : ErasStandOn g everything p) (means : KernelsMean p pr sources) (ended : HasEnded g) where
@@ -248,21 +242,16 @@ module _ (g : Graph) (p : Plan) (pr : Program) (plan : IsPlanOf pr p) (sources :
     node_good : (wk : Work) (ps : List Part) (us : List Seen) (ms : List ℕ) (c : Option Cell) → is_plain wk ≡ false → WorkStands g p x n wk ps ms → Have g everything ps us → before (first ms) ≡ c
         → (v : Now) × ((work_line t n wk c us).value ≡ Ok v)
     node_good wk ps us ms c plain st have is =
-        let next = stands_next g p x n wk ps ms plain st in
-        let good = ended.good (first ms) next.live in
-        (good.now, sym (node_value g everything t sources before closed settled x n wk ps us ms c tt next have is) ∙ good.value)
+        let clean = work_clean g everything t sources before closed settled p x n wk ps us ms c refl st have (λ e kn. is) tt in
+        has_value (work_line t n wk c us).value clean.value
 
     -- the cell of a work's node that isn't late
-    node_cell : (wk : Work) (ps : List Part) (us : List Seen) (ms : List ℕ) (c : Option Cell) → is_plain wk ≡ false → is_late wk ≡ false → inputs_of wk ps ≡ ps
+    node_cell : (wk : Work) (ps : List Part) (us : List Seen) (ms : List ℕ) (c : Option Cell) → is_plain wk ≡ false → is_late wk ≡ false
         → WorkStands g p x n wk ps ms → Have g everything ps us → before (first ms) ≡ c → g.cell (first ms) ≡ (work_line t n wk c us).next
-    node_cell wk ps us ms c plain late ins st have is =
+    node_cell wk ps us ms c plain late st have is =
         let next = stands_next g p x n wk ps ms plain st in
-        let rule : IsWorked g t (before (first ms)) (first ms) wk (inputs_of wk ps) = rule_on g everything t sources before closed settled x n (works wk) (inputs_of wk ps) (later_of wk ps) ms tt next in
-        rule.cell late
-        ∙ ap (λ m. (work_line t m wk (before (first ms)) (part_values g (inputs_of wk ps))).next) next.level
-        ∙ ap (λ d. (work_line t n wk d (part_values g (inputs_of wk ps))).next) is
-        ∙ ap (λ l. (work_line t n wk c (part_values g l)).next) ins
-        ∙ ap (λ xs. (work_line t n wk c xs).next) (have_values g everything ps us have (all_everything ps))
+        (node_rule g everything t sources before closed settled x n wk ps ms tt next).cell late
+        ∙ ap (λ l. l.next) (node_line g everything t sources before closed settled x n wk ps us ms c tt next have is)
 
     -- what an operator keeps is of its kind, and its node has it
     record Kept_by (form : StateForm) (plain : Bool) (ms : List ℕ) (next : Option Cell) : Type 0 where
@@ -275,7 +264,7 @@ module _ (g : Graph) (p : Plan) (pr : Program) (plan : IsPlanOf pr p) (sources :
         let good = node_good (operates o) ps us ms c plain st have is in
         record {
           fits = operator_fits o c us late good.0 (sym (operator_value o c us) ∙ good.1);
-          cell = subst (λ b. Unless b (g.cell (first ms) ≡ (state_now (of_operator o) c us no_call).next)) (sym plain) (node_cell (operates o) ps us ms c plain late (prompt_inputs o ps late) st have is ∙ ap (λ l. l.next) (prompt_line o c us late));
+          cell = subst (λ b. Unless b (g.cell (first ms) ≡ (state_now (of_operator o) c us no_call).next)) (sym plain) (node_cell (operates o) ps us ms c plain late st have is ∙ ap (λ l. l.next) (prompt_line o c us late));
         }
 
     late_kept : (o : Operator) (ps : List Part) (us : List Seen) (ms : List ℕ) (c : Option Cell) → is_plain (operates o) ≡ false → is_late (operates o) ≡ true → operator_takes o (length ps) ≡ true
@@ -405,7 +394,7 @@ module _ (g : Graph) (p : Plan) (pr : Program) (plan : IsPlanOf pr p) (sources :
         let front : take (handler_parts h) (ps.values ++ others) ≡ ps.values = ap (λ m. take m (ps.values ++ others)) (sym count) ∙ take-append_seam ps.values others in
         let behind : drop (handler_parts h) (ps.values ++ others) ≡ others = ap (λ m. drop m (ps.values ++ others)) (sym count) ∙ drop-append_seam ps.values others in
         let call = handler ev vs (length (map f es)) body in
-        let means_here = λ (args : List Seen) (e : length args ≡ handler_binds h). kernel_means g everything p pr plan sources before closed settled eras means n few (agrees_at n below) x env vs en n id.0 (handler_binds h) ss args kept.Nothing below s.fits e in
+        let means_here = λ (args : List Seen) (e : length args ≡ handler_binds h). (kernel_means g everything p pr plan sources before closed settled eras means n few (agrees_at n below) x env vs en n id.0 (handler_binds h) ss args kept.Nothing below s.fits e).value in
         let both = have_append g everything qs.parts ps.values (slot_parts p env ss) others have slots in
         let good = node_good (handles h id.0) (qs.parts ++ slot_parts p env ss) (ps.values ++ others) qs.left cell refl st.2 both (kp.1 tt) in
         let value : (state_now (of_handler h) cell ps.values call).value ≡ (work_line t n (handles h id.0) cell (ps.values ++ others)).value
@@ -416,7 +405,7 @@ module _ (g : Graph) (p : Plan) (pr : Program) (plan : IsPlanOf pr p) (sources :
         ∙ ap (λ xs. (state_now (of_handler h) cell ps.values (kernel_call t n id.0 xs)).next) behind ∙ handler_next h cell ps.values (kernel_call t n id.0 others) call means_here in
         let line = state_now (of_handler h) cell ps.values call in
         let trees = form_keeps (of_handler h) es ms inner line.next sound st.0 kp.0 (handler_fits h cell ps.values call good.0 (value ∙ good.1)) in
-        let has = node_cell (handles h id.0) (qs.parts ++ slot_parts p env ss) (ps.values ++ others) qs.left cell refl refl refl st.2 both (kp.1 tt) in
+        let has = node_cell (handles h id.0) (qs.parts ++ slot_parts p env ss) (ps.values ++ others) qs.left cell refl refl st.2 both (kp.1 tt) in
         subst (λ u. AllKeep walk News env 0 es ms (behind_cell (of_handler h) u) × CellKeeps new (of_handler h) qs.left u) (opens (core.Handler h (map f es) body) (Core-F.Handler h (map f es) body) k (outs-Handler h (map f es) body))
         (trees.0, λ kn. has ∙ next ∙ trees.1)
     shape_keeps (Low-F.Loop l es id ss) ms k s st kp =

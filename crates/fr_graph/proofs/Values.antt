@@ -31,8 +31,8 @@ use Rattle.fr_graph.specs.Graph.{Part, steady, signal, Work, operates, handles, 
 use Rattle.fr_graph.specs.Walk.{Plan, first, rest, Walk, Placed, AllPlaced, place_all, place_switch, place_chosen, place_call, slot_parts, variable_part, low_body, place_shape, place}
 use Rattle.fr_graph.specs.Wired.{IsNext, AreNext, Unless, WorkStands, IsSource, SlotsStand, AllStand, Chosen, SwitchStands, CallStands, ShapeStands, Wired, EraStands}
 use Rattle.fr_graph.specs.Keeps.{Asked, AllKeep, SwitchKeeps, CallKeeps, CellKeeps, ShapeKeeps, Keeps, asks_nothing}
-use Rattle.fr_graph.specs.Known.{Reads, IsClosed, IsKnown, Have, IsWatched, IsWorked, Rule, SettledOn, ErasStandOn}
-use Rattle.fr_graph.specs.Sound.{Sound, IsPlanOf, KernelsMean}
+use Rattle.fr_graph.specs.Known.{Reads, IsClosed, IsKnown, Have, IsWatched, IsFed, IsWorked, Rule, SettledOn, ErasStandOn}
+use Rattle.fr_graph.specs.Sound.{Sound, IsPlanOf, AreAlike, KernelsMean}
 use Rattle.fr_graph.proofs.Parts.{AllKnown, read_known, have_at, have_append, have_length}
 use Rattle.fr_graph.proofs.Works.{beside_value, operator_value, rule_on, inputs_on, work_value}
 use Rattle.fr_graph.proofs.Calls.{handler_value, loop_value}
@@ -62,7 +62,9 @@ module _ (g : Graph) (known : ℕ → Type 0) (p : Plan) (pr : Program) (plan : 
       → Agrees (place p n e env ms) (eval_to n w (f e) vs k)
 
   source_value : (s : ℕ) → IsSource g p s → known (p.node_of s) → g.value (p.node_of s) ≡ source_seen (slice_get sources s)
-  source_value s st kn = subst (λ (j : Kind). Rule g t sources before (p.node_of s) j (g.inputs (p.node_of s))) st.kind (settled (p.node_of s) kn st.live)
+  source_value s st kn =
+      let fed : IsFed g sources (p.node_of s) s = subst (λ (j : Kind). Rule g t sources before (p.node_of s) j (g.inputs (p.node_of s))) st.kind (settled (p.node_of s) kn st.live) in
+      fed.value ∙ ap source_seen (sym fed.there)
 
   -- the one input of a known node is known
   input_known : (m : ℕ) (h : Part) → known m → g.live m ≡ true → g.inputs m ≡ h ∷ [] → IsKnown known h
@@ -96,11 +98,11 @@ module _ (g : Graph) (known : ℕ → Type 0) (p : Plan) (pr : Program) (plan : 
 
     -- a kernel that fits here gives what its expression does
     pub kernel_means : (m id b : ℕ) (ss : List Slot) (args : List Seen) (tree : Kept) → m ≤ 2001 → Fits t.kernels (length env) (record { id = id; binds = b; slots = ss }) → length args ≡ b
-        → (kernel_run t m id (map (slot_seen sources vs) ss) args).value ≡ (eval_to m w (kernel_expr t.kernels id) (vs ++ args) tree).value
+        → AreAlike (kernel_run t m id (map (slot_seen sources vs) ss) args) (eval_to m w (kernel_expr t.kernels id) (vs ++ args) tree)
     kernel_means m id b ss args tree le fit e =
         let said = means m id fit.kernel le fit.stands vs args (sym (have_length g known env vs en) ∙ sym fit.first) (e ∙ sym fit.params) tree in
-        ap (λ us. (kernel_run t m id (map (slot_seen sources vs) us) args).value) (sym fit.slots) ∙ said
-        ∙ ap (λ o. (eval_to m w (expr_in o) (vs ++ args) tree).value) (sym fit.stands)
+        subst (λ us. AreAlike (kernel_run t m id (map (slot_seen sources vs) us) args) (eval_to m w (kernel_expr t.kernels id) (vs ++ args) tree)) fit.slots
+          (subst (λ o. AreAlike (kernel_run t m id (map (slot_seen sources vs) fit.kernel.slots) args) (eval_to m w (expr_in o) (vs ++ args) tree)) (sym fit.stands) said)
 
     -- a switch
 
@@ -216,7 +218,7 @@ module _ (g : Graph) (known : ℕ → Type 0) (p : Plan) (pr : Program) (plan : 
         ∙ ap (λ xs. (state_now (of_handler h) cell xs (kernel_call t n id.0 (drop (handler_parts h) (ps.values ++ others)))).value) front
         ∙ ap (λ xs. (state_now (of_handler h) cell ps.values (kernel_call t n id.0 xs)).value) behind
         ∙ handler_value h cell ps.values (kernel_call t n id.0 others) (handler ev vs (length (map f es)) body)
-        (λ args e. kernel_means n id.0 (handler_binds h) ss args kept.Nothing (omega (arith, few)) s.fits e)
+        (λ args e. (kernel_means n id.0 (handler_binds h) ss args kept.Nothing (omega (arith, few)) s.fits e).value)
         ∙ opens (core.Handler h (map f es) body) (Core-F.Handler h (map f es) body) k (outs-Handler h (map f es) body)
     shape_on (Low-F.Loop l es id ss) ms k s st kp = λ kn.
         let qs = place_all walk env es ms in
@@ -228,7 +230,7 @@ module _ (g : Graph) (known : ℕ → Type 0) (p : Plan) (pr : Program) (plan : 
         let count : length ps.values ≡ 2 = sym (have_length g known qs.parts ps.values have) ∙ all_length walk env es ms ∙ s.parts in
         work_value g known t sources before closed settled p x n (loops l id.0) (qs.parts ++ slot_parts p env ss) (ps.values ++ others) qs.left None refl st.2
         (have_append g known qs.parts ps.values (slot_parts p env ss) others have slots) (λ e. absurd (false≢true (sym e))) kn
-        ∙ loop_line l id.0 ps.values others body count (λ args e. kernel_means n id.0 (loop_binds l) ss args kept.Nothing (omega (arith, few)) s.fits e)
+        ∙ loop_line l id.0 ps.values others body count (λ args e. (kernel_means n id.0 (loop_binds l) ss args kept.Nothing (omega (arith, few)) s.fits e).value)
         ∙ opens (core.Loop l (map f es) body) (Core-F.Loop l (map f es) body) k (outs-Loop l (map f es) body)
       where
         -- the line of a loop over two parts and other values
@@ -264,7 +266,7 @@ module _ (g : Graph) (known : ℕ → Type 0) (p : Plan) (pr : Program) (plan : 
     shape_on (Low-F.Collapse id ss) ms k s st kp = λ kn.
         let others = map (slot_seen sources vs) ss in
         work_value g known t sources before closed settled p x n (runs id.0) (slot_parts p env ss) others ms None refl st.1 (slots_on ss st.0) (λ e. absurd (false≢true (sym e))) kn
-        ∙ kernel_means (suc n) id.0 0 ss [] k few s.fits refl
+        ∙ (kernel_means (suc n) id.0 0 ss [] k few s.fits refl).value
         ∙ ap (λ us. (eval_to (suc n) w (kernel_expr t.kernels id.0) us k).value) (append-nil vs)
 
   -- THE VALUES. Where the known nodes of a graph are settled and the eras of known watches stand, what stands for an expression and is known has the value of evaluating it afresh.

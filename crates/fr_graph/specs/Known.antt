@@ -8,9 +8,8 @@ use Rattle.fr_meaning.specs.States.{datum_next, payload_next}
 use Rattle.fr_core.specs.declared.lowered.Low.{Low}
 use Rattle.fr_meaning.specs.Words.{Seen, Env, datum_in, event_of, test_of}
 use Rattle.fr_meaning.specs.Cells.{Cell}
-use Rattle.fr_meaning.specs.Evaluation.{source_seen}
 use Rattle.fr_kernel.specs.Kernels.{Kernels}
-use Rattle.fr_graph.specs.Graph.{Part, steady, signal, Work, operates, feeds, Kind, source, works, watch, result, Graph, part_value, part_values, work_line, is_late}
+use Rattle.fr_graph.specs.Graph.{Part, steady, signal, Work, operates, feeds, Kind, source, works, watch, result, Graph, part_value, part_values, IsClean, work_line, is_late}
 use Rattle.fr_graph.specs.Walk.{Plan}
 use Rattle.fr_graph.specs.Wired.{Chosen, EraStands}
 
@@ -43,14 +42,21 @@ pub record IsWatched (g : Graph) (m : ℕ) (tested : Part) : Type 0 where
   pub value : test_of (g.value m) ≡ Ok holds
   pub test : test_of (part_value g tested) ≡ Ok holds
 
--- a work has its value by those of its inputs and by the cell before, and its next cell, unless its last part gives that behind the instant
+-- a source's node has the value that the source has
+pub record IsFed (g : Graph) (sources : List Now) (m s : ℕ) : Type 0 where
+  pub now : Now
+  pub there : slice_get sources s ≡ Some now
+  pub value : g.value m ≡ Ok now
+
+-- a work has its value by those of its inputs and by the cell before, without an error, and its next cell, unless its last part gives that behind the instant
 pub record IsWorked (g : Graph) (t : Kernels) (before : Option Cell) (m : ℕ) (w : Work) (ins : List Part) : Type 0 where
   pub value : g.value m ≡ (work_line t (g.level m) w before (part_values g ins)).value
+  pub clean : IsClean (work_line t (g.level m) w before (part_values g ins))
   pub cell : is_late w ≡ false → g.cell m ≡ (work_line t (g.level m) w before (part_values g ins)).next
 
 -- the rule for the value of a node of a kind, with these inputs
 abbrev pub Rule : Graph → Kernels → List Now → (ℕ → Option Cell) → ℕ → Kind → List Part → Type 0
-Rule g t sources before m (source s) ins = g.value m ≡ source_seen (slice_get sources s)
+Rule g t sources before m (source s) ins = IsFed g sources m s
 Rule g t sources before m (works w) ins = IsWorked g t (before m) m w ins
 Rule g t sources before m (watch a b env) (test ∷ []) = IsWatched g m test
 Rule g t sources before m result (q ∷ []) = g.value m ≡ part_value g q
@@ -78,12 +84,6 @@ pub record IsLatched (g : Graph) (m : ℕ) (w : Work) (last : Part) : Type 0 whe
   pub takes : latch w (part_value g last) ≡ Ok taken
   pub kept : g.cell m ≡ Some taken
 
--- a node has a value
-pub record HasValue (g : Graph) (m : ℕ) : Type 0 where
-  pub now : Now
-  pub value : g.value m ≡ Ok now
-
--- an instant has ended: each live node has a value, and the works that take their last part's value have taken it
+-- an instant has ended: the works that take their last part's value have taken it
 pub record HasEnded (g : Graph) : Type 0 where
-  pub good : (m : ℕ) → g.live m ≡ true → HasValue g m
   pub latched : (m : ℕ) (w : Work) (last : Part) → g.live m ≡ true → g.kind m ≡ works w → is_late w ≡ true → g.later m ≡ Some last → IsLatched g m w last

@@ -2,7 +2,7 @@
 use Rattle.std.specs.Prelude.{◌≡◌, ◌≤◌, ℕ, true, List, ◌++◌, map, length, slice_get, Some}
 use Rattle.fr_value.specs.declared.now.Now.{Now}
 use Rattle.fr_core.specs.declared.kept.Kept.{Kept}
-use Rattle.fr_meaning.specs.Words.{Seen}
+use Rattle.fr_meaning.specs.Words.{Seen, Done}
 use Rattle.fr_meaning.specs.Evaluation.{world_of, eval_to}
 use Rattle.fr_graph.specs.Graph.{kernel_run}
 use Rattle.fr_core.specs.Classes.{IsPureExpr}
@@ -40,7 +40,12 @@ pub record IsPlanOf (pr : Program) (p : Plan) : Type 0 where
   pub slots : (i : ℕ) (k : Kernel) → slice_get p.table.kernels i ≡ Some k → k.slots ≡ slots_of k.first k.expr
   pub bodies : (i : ℕ) (f : LowFunction) → slice_get p.functions i ≡ Some f → Sound p.table f.params f.body
 
--- the run of a kernel gives the value of the expression that it was made from, over the variables and sources that its slots stand for and any kept tree
+-- two evaluations give the same value and the same first error
+pub record AreAlike (a b : Done) : Type 0 where
+  pub value : a.value ≡ b.value
+  pub first : a.first ≡ b.first
+
+-- the run of a kernel gives what the expression does that it was made from, over the variables and sources that its slots stand for and any kept tree
 abbrev pub KernelsMean : Plan → Program → List Now → Type 0
 KernelsMean p pr sources = (n i : ℕ) (k : Kernel) → n ≤ 2001 → slice_get p.table.kernels i ≡ Some k → (vs args : List Seen) → length vs ≡ k.first → length args ≡ k.params → (tree : Kept)
-    → (kernel_run p.table n i (map (slot_seen sources vs) k.slots) args).value ≡ (eval_to n (world_of pr sources) k.expr (vs ++ args) tree).value
+    → AreAlike (kernel_run p.table n i (map (slot_seen sources vs) k.slots) args) (eval_to n (world_of pr sources) k.expr (vs ++ args) tree)

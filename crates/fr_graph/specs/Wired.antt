@@ -93,7 +93,7 @@ CallStands S (Some body) q = S body q.parts q.left
 -- one case for each shape
 abbrev pub ShapeStands : Graph → Plan → ℕ → ℕ → Walk → Standing → List Part → List ℕ → Low-F Low → Type 0
 ShapeStands g p x n walk S env ms (Low-F.Lit v) = Unit {0}
-ShapeStands g p x n walk S env ms (Low-F.Var v) = Unit {0}
+ShapeStands g p x n walk S env ms (Low-F.Var v) = v.0 < length env
 ShapeStands g p x n walk S env ms (Low-F.Source s) = IsSource g p s.0
 ShapeStands g p x n walk S env ms (Low-F.Let es body) = let q = place_all walk env es ms in AllStand walk S env es ms × S body (env ++ q.parts) q.left
 ShapeStands g p x n walk S env ms (Low-F.If site test a b) = let t = walk test env ms in S test env ms × SwitchStands g x n S a b env t.part t.left
