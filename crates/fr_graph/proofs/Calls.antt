@@ -1,5 +1,6 @@
 -- Handlers' calls and loops' turns, by what their bodies give.
 use Rattle.std.proofs.Common.{◌≡◌, ◌+◌, ℕ, ℤ, zero, suc, pos, negsuc, nat_le, Bool, true, false, if◌then◌else◌, List, [], ◌∷◌, ◌++◌, map, length, replicate, slice_get, refl, ap, sym, ◌∙◌, subst, Option, Some, None, Result, Ok, Err}
+use Rattle.std.specs.Option.{option_or}
 use Rattle.fr_value.specs.Data.{value_of}
 use Rattle.fr_value.specs.declared.now.Bad.{Bad}
 use Rattle.fr_value.specs.declared.value.Datum.{Datum}
@@ -9,9 +10,10 @@ use Rattle.fr_core.specs.declared.core_form.Handler.{Handler}
 use Rattle.fr_core.specs.declared.core_form.Handler.TheVariants as handler
 use Rattle.fr_core.specs.declared.core_form.Loop.{Loop}
 use Rattle.fr_core.specs.declared.core_form.Loop.TheVariants as loop
-use Rattle.fr_meaning.specs.Words.{Seen, Done, plain, on_ok, event_of, part}
+use Rattle.fr_meaning.specs.Words.{Seen, First, Done, under, own, plain, on_ok, event_of, part}
 use Rattle.fr_meaning.specs.Cells.{Cell}
 use Rattle.fr_meaning.specs.States.{Line, Call, Begun, known, asks, begun_unless_refused, asks_payload, asks_both, base_of, keeps, stays, handler_begin, handler_line, handler_end, finished, of_handler, state_now}
+use Rattle.fr_graph.specs.Graph.{IsClean}
 use Rattle.fr_meaning.specs.Evaluation.{turns, all_turns, list_in, count_in, rounds}
 
 -- a handler is called with as many arguments as it binds
@@ -54,6 +56,21 @@ handler_next h cell xs call other same = by_begun (handler_begin h cell xs) (han
     by_begun (known l) a = refl
     by_begun (asks args) a = ap (λ v. (handler_line h args v).next) (same args a)
 
+-- and it is clean where the calls give the same and don't err either
+pub handler_clean : (h : Handler) (cell : Option Cell) (xs : List Seen) (call other : Call) → ((args : List Seen) → length args ≡ handler_binds h → ((call args).value ≡ (other args).value) × ((call args).first ≡ None → (other args).first ≡ None))
+    → IsClean (state_now (of_handler h) cell xs call) → IsClean (state_now (of_handler h) cell xs other)
+handler_clean h cell xs call other same = by_begun (handler_begin h cell xs) (handler_asks h cell xs)
+  where
+    by_begun : (b : Begun) → AsksFor (handler_binds h) b → IsClean (finished call (handler_end h) b) → IsClean (finished other (handler_end h) b)
+    by_begun (known l) a c = c
+    by_begun (asks args) a c =
+        let s = same args a in
+        record {
+          value = ap (λ v. own (handler_line h args v).value) (sym s.0) ∙ c.value;
+          inner = s.1 c.inner;
+          refusal = ap (λ v. (handler_line h args v).refusal) (sym s.0) ∙ c.refusal;
+        }
+
 -- each of these has so many values
 abbrev AllOf : ℕ → List (List Seen) → Type 0
 AllOf n [] = Unit {0}
@@ -95,6 +112,36 @@ module _ (body other : List Seen → Done) where
   turns_value m same t acc (vs ∷ rest) a =
       ap (λ v. (turns body (t + 1) v rest).value) (same (acc ∷ vs) (ap suc a.0)) ∙ turns_value m same (t + 1) (other (acc ∷ vs)).value rest a.1
 
+none_left : (a b : First) → option_or a b ≡ None → a ≡ None
+none_left None b h = refl
+none_left (Some f) b h = cc
+
+none_right : (a b : First) → option_or a b ≡ None → b ≡ None
+none_right None b h = h
+none_right (Some f) b h = cc
+
+none_under : (i : ℕ) (f : First) → under i f ≡ None → f ≡ None
+none_under i None h = refl
+none_under i (Some f) h = cc
+
+pub both_none : (a b : First) → a ≡ None → b ≡ None → option_or a b ≡ None
+both_none None b h g = g
+both_none (Some f) b h g = cc
+
+pub under_none : (i : ℕ) (f : First) → f ≡ None → under i f ≡ None
+under_none i None h = refl
+under_none i (Some f) h = cc
+
+module _ (body other : List Seen → Done) where
+  turns_clean : (m : ℕ) → ((args : List Seen) → length args ≡ suc m → ((body args).value ≡ (other args).value) × ((body args).first ≡ None → (other args).first ≡ None))
+      → (t : ℕ) (acc : Seen) (rest : List (List Seen)) → AllOf m rest → (turns body t acc rest).first ≡ None → (turns other t acc rest).first ≡ None
+  turns_clean m same t acc [] a h = refl
+  turns_clean m same t acc (vs ∷ rest) a h =
+      let s = same (acc ∷ vs) (ap suc a.0) in
+      let here = none_under t (body (acc ∷ vs)).first (none_left (under t (body (acc ∷ vs)).first) _ h) in
+      let there = none_right (under t (body (acc ∷ vs)).first) (turns body (t + 1) (body (acc ∷ vs)).value rest).first h in
+      both_none (under t (other (acc ∷ vs)).first) _ (under_none t (other (acc ∷ vs)).first (s.1 here)) (turns_clean m same (t + 1) (other (acc ∷ vs)).value rest a.1 (ap (λ v. (turns body (t + 1) v rest).first) (sym s.0) ∙ there))
+
 binds : (l : Loop) → suc (beside_acc l) ≡ loop_binds l
 binds loop.Fold = refl
 binds loop.Repeat = refl
@@ -107,3 +154,11 @@ loop_value l acc x body other same = by_rounds (rounds l x) (rounds_of l x)
     by_rounds : (r : Result (List (List Seen)) Bad) → RoundsOf (beside_acc l) r → (all_turns body acc r).value ≡ (all_turns other acc r).value
     by_rounds (Err b) a = refl
     by_rounds (Ok rest) a = turns_value body other (beside_acc l) (λ args e. same args (e ∙ binds l)) 0 acc rest a
+
+pub loop_clean : (l : Loop) (acc x : Seen) (body other : List Seen → Done) → ((args : List Seen) → length args ≡ loop_binds l → ((body args).value ≡ (other args).value) × ((body args).first ≡ None → (other args).first ≡ None))
+    → (all_turns body acc (rounds l x)).first ≡ None → (all_turns other acc (rounds l x)).first ≡ None
+loop_clean l acc x body other same = by_rounds (rounds l x) (rounds_of l x)
+  where
+    by_rounds : (r : Result (List (List Seen)) Bad) → RoundsOf (beside_acc l) r → (all_turns body acc r).first ≡ None → (all_turns other acc r).first ≡ None
+    by_rounds (Err b) a h = refl
+    by_rounds (Ok rest) a h = turns_clean body other (beside_acc l) (λ args e. same args (e ∙ binds l)) 0 acc rest a h

@@ -6,5 +6,6 @@ mod Means
 mod Values
 mod Cells
 mod Trees
+mod Clean
 mod Carry
 pub mod Items

@@ -51,12 +51,12 @@ parts_kepts : (ev : Ev) (env : Env) (k : Kept) (i : ℕ) (es : List Core) → le
 parts_kepts ev env k i [] = refl
 parts_kepts ev env k i (e ∷ es) = ap suc (parts_kepts ev env k (i + 1) es)
 
-all_everything : (ps : List Part) → AllKnown everything ps
+pub all_everything : (ps : List Part) → AllKnown everything ps
 all_everything [] = tt
 all_everything (steady v ∷ ps) = (tt, all_everything ps)
 all_everything (signal m ∷ ps) = (tt, all_everything ps)
 
-each_known : (h : Part) → IsKnown everything h
+pub each_known : (h : Part) → IsKnown everything h
 each_known (steady v) = tt
 each_known (signal m) = tt
 
@@ -267,19 +267,25 @@ module _ (g : Graph) (p : Plan) (pr : Program) (plan : IsPlanOf pr p) (sources :
           cell = subst (λ b. Unless b (g.cell (first ms) ≡ (state_now (of_operator o) c us no_call).next)) (sym plain) (node_cell (operates o) ps us ms c plain late st have is ∙ ap (λ l. l.next) (prompt_line o c us late));
         }
 
-    late_kept : (o : Operator) (ps : List Part) (us : List Seen) (ms : List ℕ) (c : Option Cell) → is_plain (operates o) ≡ false → is_late (operates o) ≡ true → operator_takes o (length ps) ≡ true
-        → WorkStands g p x n (operates o) ps ms → Have g everything ps us → Kept_by (of_operator o) (is_plain (operates o)) ms (state_now (of_operator o) c us no_call).next
-    late_kept o ps us ms c plain late takes st have =
+    -- what a late operator's cell took comes next in the table
+    pub late_comes : (o : Operator) (ps : List Part) (us : List Seen) (ms : List ℕ) → is_plain (operates o) ≡ false → is_late (operates o) ≡ true → operator_takes o (length ps) ≡ true
+        → WorkStands g p x n (operates o) ps ms → Have g everything ps us → (taken : Cell) × (state_next (of_operator o) us ≡ Ok taken) × (g.cell (first ms) ≡ Some taken)
+    late_comes o ps us ms plain late takes st have =
         let next = stands_next g p x n (operates o) ps ms plain st in
         let last = late_there o ps late takes in
         let latched = ended.latched (first ms) (operates o) last.0 next.live next.kind late (next.later ∙ last.2) in
         let same : part_value g last.0 ≡ part us (late_part o)
-        = ap (λ h. part_value g (variable_part h)) (sym last.1) ∙ have_at g everything ps us (late_part o) have (each_known _) in
-        let comes : state_next (of_operator o) us ≡ Ok latched.taken = sym (late_next o us late) ∙ ap (latch (operates o)) (sym same) ∙ latched.takes in
-        let line = late_line o c us latched.taken late comes in
+            = ap (λ h. part_value g (variable_part h)) (sym last.1) ∙ have_at g everything ps us (late_part o) have (each_known _) in
+        (latched.taken, sym (late_next o us late) ∙ ap (latch (operates o)) (sym same) ∙ latched.takes, latched.kept)
+
+    late_kept : (o : Operator) (ps : List Part) (us : List Seen) (ms : List ℕ) (c : Option Cell) → is_plain (operates o) ≡ false → is_late (operates o) ≡ true → operator_takes o (length ps) ≡ true
+        → WorkStands g p x n (operates o) ps ms → Have g everything ps us → Kept_by (of_operator o) (is_plain (operates o)) ms (state_now (of_operator o) c us no_call).next
+    late_kept o ps us ms c plain late takes st have =
+        let comes = late_comes o ps us ms plain late takes st have in
+        let line = late_line o c us comes.0 late comes.1 in
         record {
-          fits = subst (CellFits (cell_kind (of_operator o))) (sym line) (late_fits o us latched.taken late comes);
-          cell = subst (λ b. Unless b (g.cell (first ms) ≡ (state_now (of_operator o) c us no_call).next)) (sym plain) (latched.kept ∙ sym line);
+          fits = subst (CellFits (cell_kind (of_operator o))) (sym line) (late_fits o us comes.0 late comes.1);
+          cell = subst (λ b. Unless b (g.cell (first ms) ≡ (state_now (of_operator o) c us no_call).next)) (sym plain) (comes.2 ∙ sym line);
         }
 
     operator_kept : (o : Operator) (ps : List Part) (us : List Seen) (ms : List ℕ) (c : Option Cell) → operator_takes o (length ps) ≡ true

@@ -1,5 +1,5 @@
 -- The items of a program's body in a graph, and what it is for the graph to stand for an evaluation of them.
-use Rattle.std.specs.Prelude.{◌≡◌, ℕ, ◌+◌, List, [], ◌∷◌, ◌++◌, map, Option}
+use Rattle.std.specs.Prelude.{◌≡◌, ℕ, ◌+◌, List, [], ◌∷◌, ◌++◌, map, Option, None}
 use Rattle.fr_value.specs.declared.now.Now.{Now}
 use Rattle.fr_core.specs.declared.kept.Kept.{Kept}
 use Rattle.fr_core.specs.declared.kept.Kept.TheVariants as kept
@@ -77,7 +77,8 @@ pub record IsSettled (g : Graph) (p : Plan) (sources : List Now) (before : ℕ �
 abbrev pub ShowsBody : Graph → Program → Plan → List LowItem → List ℕ → List Now → Kept → Type 0
 ShowsBody g pr p is ms sources k = Have g everything (place_items (body_walk p) [] is ms).parts (body pr sources k).shown
 
--- what holds of a graph at the end of an instant over a kept tree: it shows what evaluating the body afresh over that tree shows, and stands for what that keeps
+-- what holds of a graph at the end of an instant over a kept tree: it shows what evaluating the body afresh over that tree shows, which errs nowhere, and stands for what that keeps
 pub record IsAfresh (g : Graph) (pr : Program) (p : Plan) (is : List LowItem) (ms : List ℕ) (sources : List Now) (k : Kept) : Type 0 where
   pub shows : ShowsBody g pr p is ms sources k
+  pub errless : (body pr sources k).first ≡ None
   pub stands : StandsForTree g p is ms (kept.Group (body pr sources k).kepts)

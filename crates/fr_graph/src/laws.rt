@@ -10,8 +10,9 @@ ghost use Rattle.fr_graph.specs.Walk.{Plan};
 ghost use Rattle.fr_graph.specs.Goes.{Goes, IsEmpty};
 ghost use Rattle.fr_graph.specs.Items.{AreLowered, HasNodes, IsSettled, StandsForTree, IsAfresh};
 
-/// A graph shows at the end of each instant what evaluating the program's body afresh shows, and stands for what that
-/// keeps: at the first instant over nothing kept, and at each further one over every tree for which it stood before.
+/// A graph shows at the end of each instant what evaluating the program's body afresh shows, which errs nowhere, and
+/// stands for what that keeps: at the first instant over nothing kept, and at each further one over every tree for which
+/// it stood before.
 ///
 /// What is asked of the graph is said node by node: which nodes there are for the program's items and for the choices of
 /// switches, that each obeys its own rule, and what an instant may do to nodes and eras.
