@@ -1,10 +1,10 @@
 mod Runs
-mod Numbers
+pub mod Numbers
 mod Copies
-mod InOrder
+pub mod InOrder
 mod Gathering
 mod Restoring
-mod Standing
+pub mod Standing
 mod Turning
 mod Tables
 mod Operands

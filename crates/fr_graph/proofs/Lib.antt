@@ -1,0 +1,11 @@
+mod Parts
+mod Works
+mod Calls
+mod Inside
+mod Means
+mod Values
+mod Cells
+mod Trees
+mod Clean
+mod Carry
+pub mod Items

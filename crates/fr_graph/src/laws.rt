@@ -1,0 +1,24 @@
+ghost use Rattle.std.specs.Prelude.{ℕ, List, Option};
+ghost use Rattle.fr_value.specs.declared.now.Now.{Now};
+ghost use Rattle.fr_core.specs.declared.kept.Kept.{Kept};
+ghost use Rattle.fr_core.specs.declared.kept.Kept.TheVariants as kept;
+ghost use Rattle.fr_core.specs.declared.lowered.LowItem.{LowItem};
+ghost use Rattle.fr_core.specs.declared.program.Program.{Program};
+ghost use Rattle.fr_meaning.specs.Cells.{Cell};
+ghost use Rattle.fr_graph.specs.Graph.{Graph};
+ghost use Rattle.fr_graph.specs.Walk.{Plan};
+ghost use Rattle.fr_graph.specs.Goes.{Goes, IsEmpty};
+ghost use Rattle.fr_graph.specs.Items.{AreLowered, HasNodes, IsSettled, StandsForTree, IsAfresh};
+
+/// A graph shows at the end of each instant what evaluating the program's body afresh shows, which errs nowhere, and
+/// stands for what that keeps: at the first instant over nothing kept, and at each further one over every tree for which
+/// it stood before.
+///
+/// What is asked of the graph is said node by node: which nodes there are for the program's items and for the choices of
+/// switches, that each obeys its own rule, and what an instant may do to nodes and eras.
+pub fn instants_are_afresh()
+    ensures first { (was g : Graph) (pr : Program) (p : Plan) (is : List LowItem) (ms : List ℕ) (sources : List Now) (before : ℕ → Option Cell)
+        → AreLowered pr p is → IsEmpty was → Goes was g before → HasNodes g p is ms → IsSettled g p sources before → IsAfresh g pr p is ms sources kept.Nothing }
+    ensures further { (was g : Graph) (pr : Program) (p : Plan) (is : List LowItem) (ms : List ℕ) (sources : List Now) (before : ℕ → Option Cell) (k : Kept)
+        → AreLowered pr p is → Goes was g before → HasNodes was p is ms → HasNodes g p is ms → IsSettled g p sources before → StandsForTree was p is ms k → IsAfresh g pr p is ms sources k }
+{}
