@@ -1,3 +1,4 @@
+//! The top call, which does what the words ask for over a shelf and two sinks.
 ghost use Rattle.std.specs.Prelude.{◌≡◌, ◌≢◌, ◌≤◌, ◌↔◌, ◌⊎◌, ◌∷◌, ◌+◌, ℕ, List, [], length, None, Some, IfOk, IfErr, IfSome};
 ghost use Rattle.std.specs.Io.KnownBytes.{Appends};
 ghost use Rattle.fr_io.specs.Faults.{Rose, AnyRose, FailsAs, NoneFalls, NoneMoves};
@@ -14,7 +15,7 @@ ghost use Rattle.fr_cli.specs.Requests.{command_in};
 
 use crate::command::{Request, request_of};
 use crate::telling::{Failure, status, tell};
-use fr_io::{ReadStop, Shelf, Sink, read_up_to, write_all};
+use fr_io::{FileStop, Shelf, Sink, read_up_to, write_all};
 use fr_run::{WholeEvaluator, run_session};
 use fr_show::{PROGRAM_LIMIT, Stop, accept};
 use std::alloc::Global;
@@ -32,8 +33,8 @@ fn read_program<S: Shelf>(alloc: Global, program: &str, shelf: &mut S) -> Result
 {
     match read_up_to(alloc, shelf, program, PROGRAM_LIMIT) {
         Ok(text) => Ok(text),
-        Err(ReadStop::Memory(e)) => Err(Stop::Memory(e)),
-        Err(ReadStop::Failed) => Err(Stop::Read),
+        Err(FileStop::Memory(e)) => Err(Stop::Memory(e)),
+        Err(FileStop::Failed) => Err(Stop::Read),
     }
 }
 

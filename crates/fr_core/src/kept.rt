@@ -1,3 +1,4 @@
+//! What an evaluation keeps for the next instant.
 use fr_value::Value;
 use sqlite_items::{Boxed, Items};
 

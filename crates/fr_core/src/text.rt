@@ -1,3 +1,4 @@
+//! The text of a core program, which tests compare.
 use crate::core_form::{Core, Operator};
 use crate::program::{Event, Function, Input, Item, Program};
 use crate::words::{core_word, prim_word};

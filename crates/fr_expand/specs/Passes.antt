@@ -5,7 +5,7 @@ use Rattle.std.specs.Str.{bytes_eq}
 use Rattle.fr_value.specs.declared.value.Datum.{Datum}
 use Rattle.fr_prims.specs.Names.{prim_named}
 use Rattle.fr_core.specs.declared.core_form.Core.{Core}
-use Rattle.fr_core.specs.WellFormed.{nesting}
+use Rattle.fr_core.specs.WellFormed.{nesting, deepest_nesting}
 use Rattle.fr_syntax.specs.Outlines.{Global}
 use Rattle.fr_syntax.specs.Shapes.{form_of}
 use Rattle.fr_syntax.specs.declared.form.Form.{Form}
@@ -58,7 +58,7 @@ fault_kind f = if f.name then Some kind.Name else if f.unbound then Some kind.Un
 
 -- the kind for which a well-shaped form is refused
 abbrev pub form_kind : List Global → Earlier → Form → Option Kind
-form_kind globals earlier f = option_or (fault_kind (form_faults globals earlier f)) (if nat_lt 500 (nests (form_core globals earlier.values f)) then Some kind.Nesting else None)
+form_kind globals earlier f = option_or (fault_kind (form_faults globals earlier f)) (if nat_lt deepest_nesting (nests (form_core globals earlier.values f)) then Some kind.Nesting else None)
 
 -- the names that stand for the forms behind this one
 abbrev pub behind : Earlier → Form → Earlier

@@ -1,3 +1,4 @@
+//! The rounds of a loop.
 ghost use Rattle.std.specs.Prelude.{◌≡◌, ◌<◌, ◌+◌, ◌∷◌, [], MatchOption, IfOk, length};
 ghost use Rattle.fr_value.specs.Data.{datum_of};
 ghost use Rattle.fr_meaning.specs.Words.{part, on_ok};

@@ -9,7 +9,7 @@ use Rattle.fr_value.specs.declared.now.Bad.TheVariants.{Empty, TooBig}
 use Rattle.fr_value.specs.Data.{datum_of, value_of, value_of-datum_of, AreFew, behind}
 use Rattle.fr_value.proofs.Limits.{few_passes, few_fails}
 use Rattle.fr_value.proofs.Measured.{few_parts}
-use Rattle.fr_prims.specs.Data.{list_answer, car, cdr, item_answer, joined, items_of}
+use Rattle.fr_prims.specs.Data.{list_answer, car, cdr, item_answer, items_of_all, items_of}
 
 -- a list within the limits is the answer
 pub answer_few : (ds : List Datum) → AreFew ds → list_answer ds ≡ Ok (value.List ds)
@@ -42,16 +42,16 @@ pub item_found : (v : Value) (o : Option Datum) → Some (datum_of v) ≡ o → 
 item_found v o h = sym (ap item_answer (sym h) ∙ ap Ok (value_of-datum_of v))
 
 -- what is left to be joined is the next list's items and what is left behind it
-pub joined_step : (vs : List Value) (i : ℕ) (v : Value) → i < length vs → v ≡ get_or vs i v → joined (drop i vs) ≡ items_of v ++ joined (drop (i + 1) vs)
-joined_step vs i v h e = rw (add-one, drop-cons vs i v h) (ap (λ w. items_of w ++ joined (drop (suc i) vs)) (sym e))
+pub joined_step : (vs : List Value) (i : ℕ) (v : Value) → i < length vs → v ≡ get_or vs i v → items_of_all (drop i vs) ≡ items_of v ++ items_of_all (drop (i + 1) vs)
+joined_step vs i v h e = rw (add-one, drop-cons vs i v h) (ap (λ w. items_of w ++ items_of_all (drop (suc i) vs)) (sym e))
 
 -- where all lists joined are within the limits, the last ones are
-pub joined_few : (vs : List Value) (i : ℕ) → AreFew (joined vs) → AreFew (joined (drop i vs))
+pub joined_few : (vs : List Value) (i : ℕ) → AreFew (items_of_all vs) → AreFew (items_of_all (drop i vs))
 joined_few [] zero f = f
 joined_few [] (suc i) f = f
 joined_few (v ∷ vs) zero f = f
-joined_few (v ∷ vs) (suc i) f = joined_few vs i (few_parts (items_of v) (joined vs) f).1
+joined_few (v ∷ vs) (suc i) f = joined_few vs i (few_parts (items_of v) (items_of_all vs) f).1
 
 -- where the last lists joined are beyond the limits, all of them are
-pub joined_big : (vs : List Value) (i : ℕ) (v : Value) (ds : List Datum) → i < length vs → v ≡ get_or vs i v → ds ≡ joined (drop (i + 1) vs) → (AreFew (items_of v ++ ds) → ⊥) → list_answer (joined vs) ≡ Err TooBig
-joined_big vs i v ds h e k n = answer_big (joined vs) (λ f. n (subst AreFew (joined_step vs i v h e ∙ ap (λ x. items_of v ++ x) (sym k)) (joined_few vs i f)))
+pub joined_big : (vs : List Value) (i : ℕ) (v : Value) (ds : List Datum) → i < length vs → v ≡ get_or vs i v → ds ≡ items_of_all (drop (i + 1) vs) → (AreFew (items_of v ++ ds) → ⊥) → list_answer (items_of_all vs) ≡ Err TooBig
+joined_big vs i v ds h e k n = answer_big (items_of_all vs) (λ f. n (subst AreFew (joined_step vs i v h e ∙ ap (λ x. items_of v ++ x) (sym k)) (joined_few vs i f)))

@@ -82,10 +82,10 @@ items_of (value.List ds) = ds
 items_of v = []
 
 -- the items of all lists
-abbrev pub joined : List Value → List Datum
-joined [] = []
-joined (v ∷ vs) = items_of v ++ joined vs
+abbrev pub items_of_all : List Value → List Datum
+items_of_all [] = []
+items_of_all (v ∷ vs) = items_of v ++ items_of_all vs
 
 -- lists joined
 abbrev pub appended : List Value → Answer
-appended vs = typed is_list vs (list_answer (joined vs))
+appended vs = typed is_list vs (list_answer (items_of_all vs))

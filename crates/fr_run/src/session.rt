@@ -1,13 +1,14 @@
+//! The run of a program over a script, by an evaluator of instants.
 ghost use Rattle.std.specs.Prelude.{◌≡◌, ◌≢◌, ◌≤◌, List, ℕ, [], ◌∷◌, true, length, Option, None, IfOk, IfErr, OnOk, IsErrOf};
 ghost use Rattle.std.specs.Io.KnownBytes.{Appends};
 ghost use Rattle.fr_io.specs.Faults.{FailsAs, Counts};
 ghost use Rattle.fr_io.specs.Shelves.{Reads};
 ghost use Rattle.fr_core.specs.WellFormed.{IsWellFormed};
 ghost use Rattle.fr_meaning.specs.Texts.{instant_text, next_each};
-ghost use Rattle.fr_meaning.specs.Afresh.{beginning, first_instant, instant as instant_after};
+ghost use Rattle.fr_meaning.specs.Afresh.{beginning, first_instant, instant as instant_after, greatest_time};
 ghost use Rattle.fr_show.specs.Ends.{EndsThere, StopSays, Begins};
 ghost use Rattle.fr_show.specs.Output.{program_course};
-ghost use Rattle.fr_run.specs.Scripts.{IsFedSome, greatest_time};
+ghost use Rattle.fr_run.specs.Scripts.{IsFedSome};
 ghost use Rattle.fr_run.specs.Standing.{seen_of, unfinished};
 ghost use Rattle.fr_run.specs.Written.{AreShowsOf, Wrote, CutShort, StopsIn};
 ghost use Rattle.fr_run.specs.Session.{OnAhead, OnScript, OnProgram, OnText, TextSays, IsReadToEnd};
@@ -15,7 +16,7 @@ ghost use Rattle.fr_run.specs.Session.{OnAhead, OnScript, OnProgram, OnText, Tex
 use crate::evaluator::{Evaluator, InstantStop};
 use crate::turns::{SCRIPT_LIMIT, next_instant, reader_of};
 use fr_core::{Inputs, Program};
-use fr_io::{ReadStop, Shelf, Sink, read_up_to, write_all};
+use fr_io::{FileStop, Shelf, Sink, read_up_to, write_all};
 use fr_script::ScriptReader;
 use fr_show::{Shows, Stop, accept};
 use std::alloc::Global;
@@ -168,8 +169,8 @@ fn run_script<E: Evaluator, S: Shelf, O: Sink>(
 {
     let bytes = match read_up_to(alloc, shelf, script, SCRIPT_LIMIT) {
         Ok(bytes) => bytes,
-        Err(ReadStop::Memory(e)) => return Err(Stop::Memory(e)),
-        Err(ReadStop::Failed) => return Err(Stop::Read),
+        Err(FileStop::Memory(e)) => return Err(Stop::Memory(e)),
+        Err(FileStop::Failed) => return Err(Stop::Read),
     };
     let mut reader = match reader_of(alloc, evaluator.program(), &bytes) {
         Ok(reader) => reader,

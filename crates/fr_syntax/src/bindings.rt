@@ -1,3 +1,4 @@
+//! Bindings, as they stand in a `let`.
 #![tactic(auto, using(crate::proofs::Opened::opened))]
 
 ghost use Rattle.std.specs.Prelude.{◌≡◌};

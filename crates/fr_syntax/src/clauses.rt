@@ -1,3 +1,4 @@
+//! The clauses of a `cond`.
 #![tactic(auto, using(crate::proofs::Opened::opened))]
 
 ghost use Rattle.std.specs.Prelude.{◌≡◌};

@@ -1,3 +1,4 @@
+//! The parameters and the body of a function that a form defines.
 #![tactic(auto, using(crate::proofs::Opened::opened))]
 
 ghost use Rattle.std.specs.Prelude.{◌≡◌, IfOk};

@@ -1,3 +1,4 @@
+//! Values taken apart as lists of so many items.
 ghost use Rattle.std.specs.Prelude.{◌≡◌, IfOk};
 ghost use Rattle.std.specs.Option.{option_map, option_and_then};
 ghost use Rattle.fr_value.specs.Data.{data_of, datum_of};

@@ -1,3 +1,4 @@
+//! Parts of forms, joined to what is made of them.
 ghost use Rattle.std.specs.Prelude.{◌≡◌, ◌++◌, ◌∷◌, [], IfOk, OnOk};
 ghost use Rattle.fr_syntax.specs.Parts.{beside};
 

@@ -1,3 +1,4 @@
+//! Rows of tables: a call, the text that it is made on, and what is told of the answer.
 use crate::told::Told;
 use crate::{data, names, programs, purity, scripts};
 use std::alloc::Global;

@@ -1,6 +1,7 @@
 ghost use Rattle.std.specs.Prelude.{◌≤◌, IfOk, IfSome};
 ghost use Rattle.fr_core.specs.WellFormed.{IsWellFormed};
-ghost use Rattle.fr_afresh.specs.Stands.{program_of};
+ghost use Rattle.fr_afresh.specs.Stands.{evaluated_program};
+ghost use Rattle.fr_meaning.specs.Afresh.{greatest_time};
 
 use crate::calls::{Call, Row, wrong};
 use crate::told::Told;
@@ -42,7 +43,7 @@ fn tell_stop(out: &mut Told, stop: &AfreshStop) {
 
 /// The next instant of a reader, where its time is in range.
 fn instant_of(reader: &mut ScriptReader) -> Result<Option<Inputs>, AllocError>
-    ensures { IfOk result (λ next. IfSome next (λ i. i.time ≤ 9223372036854775807)) }
+    ensures { IfOk result (λ next. IfSome next (λ i. i.time ≤ greatest_time)) }
 {
     match reader.next() {
         Ok(Turn::Instant(inputs)) if inputs.time <= MOST_TIME => Ok(Some(inputs)),
@@ -53,7 +54,7 @@ fn instant_of(reader: &mut ScriptReader) -> Result<Option<Inputs>, AllocError>
 
 /// The stop at the instants that a reader still gives, of which there are at most ten.
 fn stop_behind(mut at: Afresh, reader: &mut ScriptReader) -> Option<AfreshStop>
-    requires well_formed { IsWellFormed (program_of at) }
+    requires well_formed { IsWellFormed (evaluated_program at) }
 {
     'instants: for _ in 0..10 {
         match instant_of(reader) {

@@ -1,7 +1,7 @@
 use Rattle.std.proofs.Common.{◌≡◌, ◌+◌, ◌*◌, None, length, drop}
 use Rattle.fr_meaning.specs.Evaluation.{eval_to, parts, body_with, turns}
 use Rattle.fr_forms.specs.Rounds.{number_of, rounds_left}
-use Rattle.fr_afresh.specs.Told.{told_parts, parts_on, turns_on}
+use Rattle.fr_afresh.specs.Outcomes.{parts_without_cost, parts_on, turns_on}
 use Rattle.fr_afresh.specs.Trees.{tree}
 use Rattle.fr_afresh.proofs.evaluation.+eval.Given as goal
 
@@ -47,7 +47,7 @@ decreases-eval_feedback l = 4 * l.left + 3
 abbrev pub invariant-eval_parts-loop-i : goal.invariant-eval_parts-loop-i
 invariant-eval_parts-loop-i l = record {
   same_env : l.env ≡ l.fn.env;
-  so_far : parts_on l.so_far (parts (eval_to l.left l.world) l.fn.env (tree l.kept) l.i (drop l.i l.exprs)) ≡ told_parts (parts (eval_to l.left l.world) l.fn.env (tree l.kept) 0 l.exprs);
+  so_far : parts_on l.so_far (parts (eval_to l.left l.world) l.fn.env (tree l.kept) l.i (drop l.i l.exprs)) ≡ parts_without_cost (parts (eval_to l.left l.world) l.fn.env (tree l.kept) 0 l.exprs);
 }
 
 abbrev pub invariant-eval_turns-loop-number : goal.invariant-eval_turns-loop-number

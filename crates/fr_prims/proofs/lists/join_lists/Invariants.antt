@@ -1,10 +1,10 @@
 use Rattle.std.proofs.Common.{◌≡◌, ◌≤◌, length, drop}
-use Rattle.fr_prims.specs.Data.{joined}
+use Rattle.fr_prims.specs.Data.{items_of_all}
 use Rattle.fr_prims.proofs.lists.join_lists.Given as goal
 
 abbrev pub invariant-loop-at : goal.invariant-loop-at
 invariant-loop-at l = record {
-  so_far : l.all ≡ joined (drop l.at l.lists);
+  so_far : l.all ≡ items_of_all (drop l.at l.lists);
   within : l.at ≤ length l.lists;
 }
 
