@@ -69,7 +69,9 @@ fn next_item(
     item: &Item,
     kept: &Kept,
 ) -> Result<Progress, AllocError>
-    ensures { IfOk result (λ p. (is : List BodyItem) → whole (eval_to most_levels world.now) kept.now (number + 1) p is ≡ whole (eval_to most_levels world.now) kept.now number so_far (item.now ∷ is)) }
+    ensures { IfOk result (λ p. (is : List BodyItem) →
+        whole (eval_to most_levels world.now) kept.now (number + 1) p is ≡
+        whole (eval_to most_levels world.now) kept.now number so_far (item.now ∷ is)) }
 {
     let Progress {
         mut env,
@@ -84,7 +86,8 @@ fn next_item(
 
 /// Evaluates all items, over what they kept. It fails only where there is no memory.
 pub fn eval_items(world: &World<'_>, items: &[Item], kept: &Kept) -> Result<Progress, AllocError>
-    ensures { IfOk result (λ p. IsProgressOf p (all_items (eval_to most_levels world.now) [] kept.now 0 items.now)) }
+    ensures { IfOk result (λ p. IsProgressOf p
+        (all_items (eval_to most_levels world.now) [] kept.now 0 items.now)) }
 {
     let mut so_far = Progress {
         env: Items::new(world.alloc()),
@@ -122,7 +125,8 @@ pub fn eval_body(
 ) -> Result<Progress, AllocError>
     requires numbered { AreNumbered program.now }
     requires time { inputs.now.time ≤ greatest_time }
-    ensures evaluated { IfOk result (λ p. IsProgressOf p (body program.now (sources_at program.now values.now inputs.now) kept.now)) }
+    ensures evaluated { IfOk result (λ p. IsProgressOf p
+        (body program.now (sources_at program.now values.now inputs.now) kept.now)) }
     ensures clean { IfOk result (λ p. IsClean p) }
 {
     let sources = source_values(alloc, program, values, inputs)?;

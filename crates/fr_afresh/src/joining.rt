@@ -216,7 +216,8 @@ pub fn last_done(
     number: usize,
     last: Done,
 ) -> Result<Done, AllocError>
-    ensures { IfOk result (λ d. d ≡ ended_as last.value (with_kept around number last.kept last.first)) }
+    ensures { IfOk result (λ d. d ≡ ended_as last.value
+        (with_kept around number last.kept last.first)) }
 {
     let Done { value, kept, first } = last;
     let around = with_kept(around, number, kept, first)?;
@@ -233,7 +234,8 @@ pub fn choice_done(
     number: usize,
     choice: Done,
 ) -> Result<Done, AllocError>
-    ensures { IfOk result (λ d. d ≡ ended_as choice.value (with_kept around number (Kept.Switch key choice.kept) choice.first)) }
+    ensures { IfOk result (λ d. d ≡ ended_as choice.value
+        (with_kept around number (Kept.Switch key choice.kept) choice.first)) }
 {
     let Done { value, kept, first } = choice;
     let kept = Kept::Switch(key, Boxed::new(alloc, kept)?);
@@ -252,7 +254,8 @@ pub fn untested(alloc: Global, around: Around, bad: Bad) -> Result<Done, AllocEr
 /// The turns so far, of which one more was made, which has this number. It fails only where there is no memory.
 #[inline(never)]
 pub fn turned(number: usize, first: First, turn: Done) -> Result<Turns, AllocError>
-    ensures { IfOk result (λ t. t ≡ record { value = turn.value; first = option_or first (under number turn.first) }) }
+    ensures { IfOk result (λ t.
+        t ≡ record { value = turn.value; first = option_or first (under number turn.first) }) }
 {
     let Done {
         value,
@@ -332,7 +335,8 @@ pub fn operator_done(
     cell: Option<LentCell<'_>>,
     parts: Parts,
 ) -> Result<Done, AllocError>
-    ensures { IfOk result (λ d. d ≡ lined parts.around (state_now (of_operator operator) (earlier cell.entry) parts.values no_call)) }
+    ensures { IfOk result (λ d. d ≡ lined parts.around
+        (state_now (of_operator operator) (earlier cell.entry) parts.values no_call)) }
 {
     let Parts { values, around } = parts;
     let line = operator_line(alloc, operator, cell, values.as_slice())?;
@@ -341,7 +345,8 @@ pub fn operator_done(
 
 /// What INIT and BODY of a `feedback` leave beside their values. It fails only where there is no memory.
 fn both_behind(alloc: Global, init: Done, body: Done) -> Result<Around, AllocError>
-    ensures { IfOk result (λ a. a ≡ with_kept (with_kept unbegun_around 0 init.kept init.first) 1 body.kept body.first) }
+    ensures { IfOk result (λ a. a ≡
+        with_kept (with_kept unbegun_around 0 init.kept init.first) 1 body.kept body.first) }
 {
     let around = behind(nothing_around(alloc), 0, init)?;
     behind(around, 1, body)
@@ -355,7 +360,9 @@ pub fn feedback_done(
     init: Done,
     body: Done,
 ) -> Result<Done, AllocError>
-    ensures { IfOk result (λ d. d ≡ lined (with_kept (with_kept unbegun_around 0 init.kept init.first) 1 body.kept body.first) (state_now of_feedback (earlier cell.entry) (init.value ∷ body.value ∷ []) no_call)) }
+    ensures { IfOk result (λ d. d ≡ lined
+        (with_kept (with_kept unbegun_around 0 init.kept init.first) 1 body.kept body.first)
+        (state_now of_feedback (earlier cell.entry) (init.value ∷ body.value ∷ []) no_call)) }
 {
     let line = feedback_line(cell, &init.value, &body.value)?;
     let around = both_behind(alloc, init, body)?;
@@ -373,7 +380,8 @@ pub fn handled(
     args: CallArgs<'_>,
     body: Done,
 ) -> Result<Done, AllocError>
-    ensures { IfOk result (λ d. d ≡ lined around (handler_end handler (args_of args.entry) (called_as number body))) }
+    ensures { IfOk result (λ d. d ≡ lined around
+        (handler_end handler (args_of args.entry) (called_as number body))) }
 {
     let Done { value, kept, first } = body;
     drop_kept(kept);

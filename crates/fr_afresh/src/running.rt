@@ -73,8 +73,10 @@ fn stand_behind(
     time: u64,
 ) -> Result<Afresh, AfreshStop>
     requires clean { IsClean done }
-    ensures ok { IfOk result (λ a. (n : Instant) → n.values ≡ values → IsProgressOf done n.evaluated → Leaves a program n) }
-    ensures err { IfErr result (λ stop. (n : Instant) → IsProgressOf done n.evaluated → ErrsBy stop time n) }
+    ensures ok { IfOk result (λ a. (n : Instant) → n.values ≡ values →
+        IsProgressOf done n.evaluated → Leaves a program n) }
+    ensures err { IfErr result (λ stop. (n : Instant) → IsProgressOf done n.evaluated →
+        ErrsBy stop time n) }
 {
     let Progress { env, shown, around } = done;
     drop_values(env);
@@ -101,8 +103,10 @@ impl Afresh {
     pub fn start(alloc: Global, program: Program, first: &Inputs) -> Result<Afresh, AfreshStop>
         requires well_formed { IsWellFormed program }
         requires first { first.now ≡ first_instant }
-        ensures ok { IfOk result (λ a. Leaves a program (instant_after program (beginning program) first_instant)) }
-        ensures err { IfErr result (λ stop. ErrsBy stop 0 (instant_after program (beginning program) first_instant)) }
+        ensures ok { IfOk result (λ a. Leaves a program
+            (instant_after program (beginning program) first_instant)) }
+        ensures err { IfErr result (λ stop.
+            ErrsBy stop 0 (instant_after program (beginning program) first_instant)) }
     {
         let values = first_values(alloc, program.inputs.as_slice())?;
         let before = Afresh {
@@ -121,8 +125,10 @@ impl Afresh {
     pub fn instant(self, inputs: &Inputs) -> Result<Afresh, AfreshStop>
         requires well_formed { IsWellFormed (evaluated_program self) }
         requires time { inputs.now.time ≤ greatest_time }
-        ensures ok { IfOk result (λ a. Leaves a (evaluated_program self) (instant_after (evaluated_program self) (state_of self) inputs.now)) }
-        ensures err { IfErr result (λ stop. ErrsBy stop inputs.now.time (instant_after (evaluated_program self) (state_of self) inputs.now)) }
+        ensures ok { IfOk result (λ a. Leaves a (evaluated_program self)
+            (instant_after (evaluated_program self) (state_of self) inputs.now)) }
+        ensures err { IfErr result (λ stop. ErrsBy stop inputs.now.time
+            (instant_after (evaluated_program self) (state_of self) inputs.now)) }
     {
         let Afresh {
             alloc,

@@ -61,7 +61,8 @@ fn event_now(sets: &Sets, source: SrcId) -> Result<Now, AllocError>
 
 /// What an input has: the value at an index. Where there is none, it is as an event source.
 fn input_now(values: &[Value], at: usize, sets: &Sets, source: SrcId) -> Result<Now, AllocError>
-    ensures { IfOk result (λ n. n ≡ source_now (slice_get values.now at) (value_in source sets.now)) }
+    ensures { IfOk result (λ n. n ≡ source_now (slice_get values.now at)
+        (value_in source sets.now)) }
 {
     match values.get(at) {
         Some(value) => Ok(Now::Plain(value.share()?)),
@@ -122,7 +123,9 @@ fn walk_on(
     requires few { before < most_entries }
     requires behind { AreBehind before (drop next inputs.now) }
     ensures behind { IfOk result (λ s. AreBehind (before + 1) (drop s.next inputs.now)) }
-    ensures left { IfOk result (λ s. (more : ℕ) → s.now ∷ left_from inputs.now values.now sets.now s.next (before + 1 + 1) more ≡ left_from inputs.now values.now sets.now next (before + 1) (suc more)) }
+    ensures left { IfOk result (λ s. (more : ℕ) → s.now ∷
+        left_from inputs.now values.now sets.now s.next (before + 1 + 1) more ≡
+        left_from inputs.now values.now sets.now next (before + 1) (suc more)) }
 {
     let source = before + 1;
     if is_source(inputs, next, source) {

@@ -7,7 +7,7 @@ ghost use Rattle.fr_io.specs.Shelves.{OthersUnread, OthersStay, Reads};
 ghost use Rattle.fr_show.specs.Accepted.{program_front};
 ghost use Rattle.fr_show.specs.Course.{all_bytes};
 ghost use Rattle.fr_show.specs.Ends.{EndsThere, RefusesProgram, RefusesScript, Errs};
-ghost use Rattle.fr_cli.specs.Command.{asked, over_script, check as check_of, files_in};
+ghost use Rattle.fr_cli.specs.Command.{asked, script_command, check as check_of, files_in};
 ghost use Rattle.fr_cli.specs.Command.{OnCommand, WritesWhole, AllRead, FailsToRead, Answers, IsQuiet};
 ghost use Rattle.fr_cli.specs.Lines.{CallsFor, StandsFor};
 ghost use Rattle.fr_cli.specs.Obeyed.{IsUnread, Obeys};
@@ -46,7 +46,7 @@ fn run<S: Shelf, O: Sink>(
     shelf: &mut S,
     out: &mut O,
 ) -> Result<(), Failure>
-    ensures { (word : List ℕ) → Obeys (Some (over_script word program.now script.now)) result
+    ensures { (word : List ℕ) → Obeys (Some (script_command word program.now script.now)) result
         (S.holds shelf.old) (S.holds shelf.new)
         (S.reached shelf.old) (S.reached shelf.new) (S.faults shelf.old) (S.faults shelf.new)
         (O.written out.old) (O.written out.new) (O.faults out.old) (O.faults out.new) }
@@ -160,7 +160,8 @@ pub fn frtime<S: Shelf, O: Sink, E: Sink>(
     ensures silent { result ≡ 0 → err.new ≡ err.old }
     // Where no file that the words name and not `out` fails, the status is the one that the words and the files call for,
     // or there was no memory.
-    ensures complete { (AnyRose (files_in (asked words.now)) (S.faults shelf.old) (S.faults shelf.new) → ⊥) →
+    ensures complete { (AnyRose (files_in (asked words.now))
+        (S.faults shelf.old) (S.faults shelf.new) → ⊥) →
         (Rose (O.faults out.old) (O.faults out.new) → ⊥) →
         CallsFor (asked words.now) (S.holds shelf.old) result ⊎ (result ≡ 8) }
 

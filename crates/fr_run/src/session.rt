@@ -31,7 +31,8 @@ fn write_text<E: Evaluator, O: Sink>(
     requires one_each { length (E.stands evaluator.now).shown ≡ length shows.old }
     ensures ok { OnOk result (let seen = seen_of (E.stands evaluator.now) in
         Appends (O.written out.old) (O.written out.new) (instant_text time shows.old seen)) }
-    ensures after { OnOk result (shows.new ≡ next_each shows.old (seen_of (E.stands evaluator.now))) }
+    ensures after { OnOk result (shows.new ≡
+        next_each shows.old (seen_of (E.stands evaluator.now))) }
     ensures err { IfErr result (λ stop. let seen = seen_of (E.stands evaluator.now) in
         CutShort stop (instant_text time shows.old seen) (O.written out.old) (O.written out.new)) }
     ensures no_read { IsErrOf result Stop.Read → ⊥ }
@@ -68,7 +69,8 @@ fn begin<E: Evaluator, O: Sink>(
 ) -> Result<E, Stop>
     requires well_formed { IsWellFormed program }
     requires one_each { AreShowsOf shows.old program }
-    ensures ok { IfOk result (λ e. let n = instant_after program (beginning program) first_instant in
+    ensures ok { IfOk result (λ e.
+        let n = instant_after program (beginning program) first_instant in
         Wrote (E.stands e) program n 0 shows.old shows.new (O.written out.old) (O.written out.new)) }
     ensures err { IfErr result (λ stop. StopsIn stop program (beginning program) first_instant
         shows.old (O.written out.old) (O.written out.new)) }
@@ -157,7 +159,8 @@ fn run_script<E: Evaluator, S: Shelf, O: Sink>(
     requires one_each { AreShowsOf shows.old (E.stands evaluator).program }
     ensures ok { OnOk result (OnScript (S.holds shelf.old script.now) (E.stands evaluator) shows.old
         (λ c. EndsThere None c (O.written out.old) (O.written out.new))) }
-    ensures err { IfErr result (λ stop. OnScript (S.holds shelf.old script.now) (E.stands evaluator) shows.old
+    ensures err { IfErr result (λ stop. OnScript (S.holds shelf.old script.now)
+        (E.stands evaluator) shows.old
         (λ c. StopSays stop c (O.written out.old) (O.written out.new))) }
     ensures to_end { OnOk result (IsReadToEnd script.now (S.holds shelf.old)
         (S.reached shelf.old) (S.reached shelf.new)) }
