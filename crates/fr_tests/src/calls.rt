@@ -79,3 +79,17 @@ pub(crate) fn wrong(alloc: Global, rows: &'static [Row]) -> usize {
     }
     0
 }
+
+/// The number of the first line of which something else is told, counted from 1, or 0. A line is the text that the call
+/// is made on, and behind ` => ` what is told of the answer.
+pub(crate) fn wrong_line(alloc: Global, call: Call, lines: &'static [&'static str]) -> usize {
+    for (at, line) in lines.iter().enumerate() {
+        let Some((text, want)) = line.split_once(" => ") else {
+            return at + 1;
+        };
+        if !tells(alloc, call, text.as_bytes(), want) {
+            return at + 1;
+        }
+    }
+    0
+}

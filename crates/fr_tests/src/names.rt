@@ -1,4 +1,4 @@
-use crate::calls::{Call, Row, wrong};
+use crate::calls::{Call, Row, wrong, wrong_line};
 use crate::told::Told;
 use fr_reader::{read_all, read_one};
 use fr_scope::{Globals, Meaning, Scope};
@@ -258,34 +258,34 @@ pub(crate) fn tell_outline(out: &mut Told, form: &Value) {
     }
 }
 
-const OUTLINES: &[Row] = &[
-    (Call::Outline, "(define-input x 1)", "input x"),
-    (Call::Outline, "(define-input x)", "input x"),
-    (Call::Outline, "(define-input if 1 2 3)", "input if"),
-    (Call::Outline, "(define-event e)", "event e"),
-    (Call::Outline, "(define-event e ())", "event e"),
-    (Call::Outline, "(define (f a) a)", "function f"),
-    (Call::Outline, "(define (f 1))", "function f"),
-    (Call::Outline, "(define (f))", "function f"),
-    (Call::Outline, "(define x 1)", "none"),
-    (Call::Outline, "(define () 1)", "none"),
-    (Call::Outline, "(define (1) 2)", "none"),
-    (Call::Outline, "(define ((f)) 2)", "none"),
-    (Call::Outline, "(define)", "none"),
-    (Call::Outline, "(define-input)", "none"),
-    (Call::Outline, "(define-input (x) 1)", "none"),
-    (Call::Outline, "(define-input 1 2)", "none"),
-    (Call::Outline, "(define-event (e))", "none"),
-    (Call::Outline, "(show x 1)", "none"),
-    (Call::Outline, "(f x)", "none"),
-    (Call::Outline, "((define-input) x)", "none"),
-    (Call::Outline, "()", "none"),
-    (Call::Outline, "x", "none"),
+const OUTLINES: &[&str] = &[
+    "(define-input x 1) => input x",
+    "(define-input x) => input x",
+    "(define-input if 1 2 3) => input if",
+    "(define-event e) => event e",
+    "(define-event e ()) => event e",
+    "(define (f a) a) => function f",
+    "(define (f 1)) => function f",
+    "(define (f)) => function f",
+    "(define x 1) => none",
+    "(define () 1) => none",
+    "(define (1) 2) => none",
+    "(define ((f)) 2) => none",
+    "(define) => none",
+    "(define-input) => none",
+    "(define-input (x) 1) => none",
+    "(define-input 1 2) => none",
+    "(define-event (e)) => none",
+    "(show x 1) => none",
+    "(f x) => none",
+    "((define-input) x) => none",
+    "() => none",
+    "x => none",
 ];
 
 #[test]
 fn an_outline_asks_for_the_first_two_items_alone(rt: HostRuntime) {
-    assert_eq!(rt; wrong(rt.alloc(), OUTLINES), 0);
+    assert_eq!(rt; wrong_line(rt.alloc(), Call::Outline, OUTLINES), 0);
 }
 
 // It takes the form by value, since letting one go in an arm of a match is very dear to prove.
