@@ -1,4 +1,4 @@
-use crate::calls::{Call, wrong_line};
+use crate::calls::{Call, Lines};
 use crate::names::tell_outline;
 use crate::told::Told;
 use fr_prims::{PrimStop, apply, prim_named};
@@ -174,12 +174,14 @@ fn tell_application(alloc: Global, out: &mut Told, datum: &Value) {
     }
 }
 
-const TEXTS: &[&str] = &[
+/// Texts, and their data or the number that is refused.
+pub(crate) const TEXTS: Lines = &[
     "1 -2 +3 007 -0 #true 'x ;c\n [a \"\\n\"] => 1 -2 3 7 0 #t (quote x) (a \"\\n\")",
     "x (a (b \"c) d) e => refused 2",
 ];
 
-const SINGLE: &[&str] = &[
+/// Texts of one datum, and others.
+pub(crate) const SINGLE: Lines = &[
     "a => a",
     " [1 'x] ; c => (1 (quote x))",
     " => refused",
@@ -189,13 +191,11 @@ const SINGLE: &[&str] = &[
     "( => refused",
 ];
 
-const SYMBOLS: &[&str] = &["set-it! => set-it!", "-.5 => none", "\u{e9} => none"];
+/// Texts, and the symbol that each is.
+pub(crate) const SYMBOLS: Lines = &["set-it! => set-it!", "-.5 => none", "\u{e9} => none"];
 
 #[test]
-fn texts_read(rt: HostRuntime) {
-    assert_eq!(rt; wrong_line(rt.alloc(), Call::Data, TEXTS), 0);
-    assert_eq!(rt; wrong_line(rt.alloc(), Call::Datum, SINGLE), 0);
-    assert_eq!(rt; wrong_line(rt.alloc(), Call::Symbol, SYMBOLS), 0);
+fn laws_of_readings_are_called() {
     printed_text_reads(&Value::Bool(true));
     one_reading();
 }
@@ -212,7 +212,7 @@ fn refusals_are_shown(rt: HostRuntime) -> Result<(), AllocError> {
 
 /// Values, and sizes, depths and texts; of a list also the number of items, the first and the third, and the rest's
 /// size and depth.
-const VALUES: &[&str] = &[
+pub(crate) const VALUES: Lines = &[
     "0 => 1 0 0",
     "-42 => 1 0 -42",
     "-9223372036854775808 => 1 0 -9223372036854775808",
@@ -229,17 +229,11 @@ const VALUES: &[&str] = &[
 ];
 
 /// Items of a list, and for each a sign for every item of the same list, read again.
-const SAME: &[&str] = &[
+pub(crate) const SAME: Lines = &[
     "(1 2 #t #f ab \"ab\" \"ba\" () (()) (1) (2) (\"ab\")) => \
-    =........... .=.......... ..=......... ...=........ ....=....... .....=...... \
+         =........... .=.......... ..=......... ...=........ ....=....... .....=...... \
          ......=..... .......=.... ........=... .........=.. ..........=. ...........=",
 ];
-
-#[test]
-fn values_have_sizes_depths_and_parts(rt: HostRuntime) {
-    assert_eq!(rt; wrong_line(rt.alloc(), Call::Measures, VALUES), 0);
-    assert_eq!(rt; wrong_line(rt.alloc(), Call::Same, SAME), 0);
-}
 
 fn is_occurrence(now: &Now) -> bool {
     matches!(now, Now::Occ(Some(Value::Bool(true))))
@@ -265,7 +259,7 @@ fn states_and_texts_are_shared(rt: HostRuntime) -> Result<(), AllocError> {
 }
 
 /// What two primitives answer, and what primitives refuse, with the kind.
-const REFUSALS: &[&str] = &[
+pub(crate) const APPLICATIONS: Lines = &[
     "(append (1) () (2 3)) => (1 2 3)",
     "(first (a)) => a",
     "(+ 9223372036854775807 1) => Range",
@@ -313,8 +307,3 @@ const REFUSALS: &[&str] = &[
     "(symbol->string \"a\") => WrongType",
     "(number->string a) => WrongType",
 ];
-
-#[test]
-fn primitives_refuse_with_their_kind(rt: HostRuntime) {
-    assert_eq!(rt; wrong_line(rt.alloc(), Call::Applied, REFUSALS), 0);
-}

@@ -1,4 +1,4 @@
-use crate::calls::{Call, Row, wrong, wrong_line};
+use crate::calls::{Call, Lines, Row, wrong};
 use crate::told::Told;
 use fr_reader::{read_all, read_one};
 use fr_scope::{Globals, Meaning, Scope};
@@ -258,7 +258,8 @@ pub(crate) fn tell_outline(out: &mut Told, form: &Value) {
     }
 }
 
-const OUTLINES: &[&str] = &[
+/// Forms, and the global name that each gives by its first two items.
+pub(crate) const OUTLINES: Lines = &[
     "(define-input x 1) => input x",
     "(define-input x) => input x",
     "(define-input if 1 2 3) => input if",
@@ -282,11 +283,6 @@ const OUTLINES: &[&str] = &[
     "() => none",
     "x => none",
 ];
-
-#[test]
-fn an_outline_asks_for_the_first_two_items_alone(rt: HostRuntime) {
-    assert_eq!(rt; wrong_line(rt.alloc(), Call::Outline, OUTLINES), 0);
-}
 
 // It takes the form by value, since letting one go in an arm of a match is very dear to prove.
 fn is_event(form: Option<Form>, want: &str) -> bool {

@@ -1,6 +1,6 @@
 ghost use Rattle.fr_core.specs.WellFormed.{IsWellFormed};
 
-use crate::calls::{Call, Row, wrong, wrong_line};
+use crate::calls::{Call, Lines, tells};
 use crate::errors::tell_error;
 use crate::purity::{tell_classes, tell_fitness};
 use crate::scripts::tell_turns;
@@ -75,44 +75,25 @@ pub(crate) fn tell_behind(alloc: Global, out: &mut Told, call: Call, forms: &str
     }
 }
 
-const FORMS: &[Row] = &[
-    (Call::Core, NAMES, NAMES_TOLD),
-    (
-        Call::Core,
-        "(define-input x -5)(define-event e)(define (f a) (+ a x))(define d 3)(show y d)",
-        "(input 1 x -5)\n\
+/// Programs and their core texts.
+pub(crate) const FORMS: Lines = &[
+    "(define-input x -5)(define-event e)(define (f a) (+ a x))(define d 3)(show y d) => \
+        (input 1 x -5)\n\
         (event 2 e)\n\
         (function f 1 (prim + (var 0) (source 1)))\n\
         (define (lit 3))\n\
         (show y (var 0))\n",
-    ),
-    (Call::Core, "(define-input x -1)", "(input 1 x -1)\n"),
-    (
-        Call::Core,
-        "(define-input x (if #t () \"a\"))",
-        "(input 1 x (if #t () \"a\"))\n",
-    ),
-    (Call::Core, "(define-event hit)", "(event 1 hit)\n"),
-    (
-        Call::Core,
-        "(define (f a b) (+ a b 2))",
-        "(function f 2 (prim + (var 0) (var 1) (lit 2)))\n",
-    ),
-    (Call::Core, "(define (f) 1)", "(function f 0 (lit 1))\n"),
-    (
-        Call::Core,
-        "(define x (f))(define (f) 1)",
-        "(function f 0 (lit 1))\n(define (call 0))\n",
-    ),
-    (Call::Core, "(show x #f)", "(show x (lit #f))\n"),
+    "(define-input x -1) => (input 1 x -1)\n",
+    "(define-input x (if #t () \"a\")) => (input 1 x (if #t () \"a\"))\n",
+    "(define-event hit) => (event 1 hit)\n",
+    "(define (f a b) (+ a b 2)) => (function f 2 (prim + (var 0) (var 1) (lit 2)))\n",
+    "(define (f) 1) => (function f 0 (lit 1))\n",
+    "(define x (f))(define (f) 1) => (function f 0 (lit 1))\n(define (call 0))\n",
+    "(show x #f) => (show x (lit #f))\n",
 ];
 
-#[test]
-fn forms_have_core_texts(rt: HostRuntime) {
-    assert_eq!(rt; wrong(rt.alloc(), FORMS), 0);
-}
-
-const EXPRESSIONS: &[&str] = &[
+/// Expressions behind the names, and the core text of their show, with the parts in their order.
+pub(crate) const EXPRESSIONS: Lines = &[
     "7 => (show y (lit 7))\n",
     "#t => (show y (lit #t))\n",
     "\"a\" => (show y (lit \"a\"))\n",
@@ -165,6 +146,6 @@ const EXPRESSIONS: &[&str] = &[
 ];
 
 #[test]
-fn expressions_have_core_texts_with_their_parts_in_order(rt: HostRuntime) {
-    assert_eq!(rt; wrong_line(rt.alloc(), Call::Shown, EXPRESSIONS), 0);
+fn names_have_their_core_text(rt: HostRuntime) {
+    assert!(rt; tells(rt.alloc(), Call::Core, NAMES.as_bytes(), NAMES_TOLD));
 }

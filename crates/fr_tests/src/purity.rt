@@ -1,4 +1,4 @@
-use crate::calls::{Call, wrong_line};
+use crate::calls::Lines;
 use crate::told::Told;
 use fr_core::{Core, Function, Item, Program};
 use fr_purity::{Classes, classify, is_fit, is_pure};
@@ -49,7 +49,8 @@ pub(crate) fn tell_fitness(alloc: Global, out: &mut Told, program: &Program) {
     }
 }
 
-const CLASSES: &[&str] = &[
+/// Programs, and for each function whether it is closed, and whether pure.
+pub(crate) const CLASSES: Lines = &[
     "(show y 1) => closed , pure ",
     "(define (f a b) (+ (* a a) (* b b))) => closed 1, pure 1",
     "(define (f a b) (collect-b a b (lambda (v s) s)))(define (g a b) (f a b))(define (h a b) (+ (* a a) (* b b))) => closed 111, pure 001",
@@ -63,12 +64,8 @@ const CLASSES: &[&str] = &[
     "(define (f a b) (+ (g a b) (f a b)))(define (g a b) (+ (f a b) (h a b)))(define (h a b) 1) => closed 111, pure 111",
 ];
 
-#[test]
-fn functions_are_closed_and_pure(rt: HostRuntime) {
-    assert_eq!(rt; wrong_line(rt.alloc(), Call::Classes, CLASSES), 0);
-}
-
-const FITNESS: &[&str] = &[
+/// Expressions behind the names, and whether each is pure, and whether fit.
+pub(crate) const FITNESS: Lines = &[
     "1 => 1 1",
     "a => 1 1",
     "(+ (* a a) (* b b)) => 1 1",
@@ -115,11 +112,6 @@ const FITNESS: &[&str] = &[
     "(let ((p a)) (delay a b)) => 0 1",
     "(if a b (delay a b)) => 0 1",
 ];
-
-#[test]
-fn expressions_are_pure_and_fit(rt: HostRuntime) {
-    assert_eq!(rt; wrong_line(rt.alloc(), Call::Fitness, FITNESS), 0);
-}
 
 fn caller(alloc: Global, next: u32) -> Result<Function, AllocError> {
     Ok(Function {
