@@ -216,8 +216,8 @@ pub fn last_done(
     number: usize,
     last: Done,
 ) -> Result<Done, AllocError>
-    ensures { IfOk result (λ d. d ≡ ended_as last.value
-        (with_kept around number last.kept last.first)) }
+    ensures { IfOk result (λ d.
+        d ≡ ended_as last.value (with_kept around number last.kept last.first)) }
 {
     let Done { value, kept, first } = last;
     let around = with_kept(around, number, kept, first)?;

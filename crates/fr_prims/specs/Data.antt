@@ -1,5 +1,6 @@
 -- The primitives on lists, and the tests of any value.
 use Rattle.std.specs.Prelude.{ℤ, pos, negsuc, Bool, true, false, not, if◌then◌else◌, List, [], ◌∷◌, ◌++◌, slice_get, Option, Some, None, Ok, Err}
+use Rattle.std.specs.List.{flat_map}
 use Rattle.fr_value.specs.Data.{value_of, few}
 use Rattle.fr_value.specs.declared.value.Datum.{Datum}
 use Rattle.fr_value.specs.declared.value.Value.{Value}
@@ -83,8 +84,7 @@ items_of v = []
 
 -- the items of all lists
 abbrev pub items_of_all : List Value → List Datum
-items_of_all [] = []
-items_of_all (v ∷ vs) = items_of v ++ items_of_all vs
+items_of_all vs = flat_map items_of vs
 
 -- lists joined
 abbrev pub appended : List Value → Answer

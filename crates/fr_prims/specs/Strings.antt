@@ -1,5 +1,6 @@
 -- The primitives on strings and symbols.
 use Rattle.std.specs.Prelude.{ℕ, Bool, true, ◌&&◌, if◌then◌else◌, List, [], ◌∷◌, ◌++◌, Ok, Err}
+use Rattle.std.specs.List.{flat_map}
 use Rattle.fr_value.specs.Bytes.{is_short}
 use Rattle.fr_value.specs.Same.{is_same}
 use Rattle.fr_value.specs.declared.value.Value.{Value}
@@ -25,8 +26,7 @@ text_of v = []
 
 -- the bytes of all strings
 abbrev pub joined_text : List Value → List ℕ
-joined_text [] = []
-joined_text (v ∷ vs) = text_of v ++ joined_text vs
+joined_text vs = flat_map text_of vs
 
 -- a string as an answer, where it is short
 abbrev pub string_answer : List ℕ → Answer
