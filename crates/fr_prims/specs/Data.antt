@@ -82,10 +82,6 @@ abbrev pub items_of : Value → List Datum
 items_of (value.List ds) = ds
 items_of v = []
 
--- the items of all lists
-abbrev pub items_of_all : List Value → List Datum
-items_of_all vs = flat_map items_of vs
-
 -- lists joined
 abbrev pub appended : List Value → Answer
-appended vs = typed is_list vs (list_answer (items_of_all vs))
+appended vs = typed is_list vs (list_answer (flat_map items_of vs))
