@@ -2,7 +2,6 @@
 use Rattle.std.specs.Prelude.{ℕ, List, [], ◌∷◌, ◌++◌, Option, Some, None, Ok, Err}
 use Rattle.std.specs.Option.{option_or, option_map}
 use Rattle.fr_value.specs.declared.now.Now.{Now}
-use Rattle.fr_core.specs.declared.core_form.Core.{Core}
 use Rattle.fr_core.specs.declared.kept.Kept.{Kept}
 use Rattle.fr_core.specs.declared.program.Item.{Item}
 use Rattle.fr_core.specs.declared.program.Item.TheVariants as item
@@ -12,11 +11,6 @@ use Rattle.fr_meaning.specs.Afresh.{Evaluated, items}
 use Rattle.fr_afresh.specs.declared.bodies.Progress.{Progress}
 use Rattle.fr_afresh.specs.declared.joining.Done.{Done}
 use Rattle.fr_afresh.specs.Outcomes.{unbegun_around, with_kept}
-
--- the expression of an item
-abbrev pub item_expr : Item → Core
-item_expr (item.Define e) = e
-item_expr (item.Show name e) = e
 
 -- the items so far, and behind them item number n: its value is bound for the items behind it, or shown
 abbrev pub behind_item : Progress → ℕ → Item → Done → Progress

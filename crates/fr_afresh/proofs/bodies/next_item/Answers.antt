@@ -6,8 +6,9 @@ use Rattle.fr_core.specs.declared.program.Item.TheVariants as item
 use Rattle.fr_meaning.specs.Words.{First}
 use Rattle.fr_meaning.specs.Cells.{child}
 use Rattle.fr_meaning.specs.Evaluation.{Ev, eval_to, most_levels}
+use Rattle.fr_meaning.specs.Dependence.{item_expr}
 use Rattle.fr_afresh.specs.declared.bodies.Progress.{Progress}
-use Rattle.fr_afresh.specs.Bodies.{item_expr, behind_item, whole}
+use Rattle.fr_afresh.specs.Bodies.{behind_item, whole}
 use Rattle.fr_afresh.specs.Outcomes.{without_cost}
 use Rattle.fr_afresh.proofs.bodies.next_item.Goals as goal
 
