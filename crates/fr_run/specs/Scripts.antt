@@ -13,6 +13,10 @@ use Rattle.fr_show.specs.Output.{script_end}
 abbrev pub script_limit : ℕ
 script_limit = 1099511627776
 
+-- the greatest time of an instant, which is the greatest integer of the language
+abbrev pub greatest_time : ℕ
+greatest_time = 9223372036854775807
+
 -- as much of a script's file as is read: its first bytes, up to one more than a script may have
 abbrev pub script_front : List ℕ → List ℕ
 script_front file = take (script_limit + 1) file

@@ -2,7 +2,8 @@
 
 ghost use Rattle.std.specs.Prelude.{◌≡◌, ◌≤◌, IfOk, IfErr};
 ghost use Rattle.fr_core.specs.WellFormed.{IsWellFormed};
-ghost use Rattle.fr_meaning.specs.Afresh.{beginning, first_instant, instant as instant_after, greatest_time};
+ghost use Rattle.fr_meaning.specs.Afresh.{beginning, first_instant, instant as instant_after};
+ghost use Rattle.fr_run.specs.Scripts.{greatest_time};
 ghost use Rattle.fr_run.specs.Standing.{Standing, IsBehind, IsCause};
 
 use fr_core::{Inputs, Program};
