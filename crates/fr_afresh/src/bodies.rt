@@ -1,5 +1,5 @@
 //! The items of a program's body, one after the other.
-ghost use Rattle.std.specs.Prelude.{◌≡◌, ◌≤◌, ◌+◌, ℕ, List, [], ◌∷◌, ◌++◌, IfOk};
+ghost use Rattle.std.specs.Prelude.{◌≡◌, ◌≤◌, ◌+◌, List, [], ◌∷◌, IfOk};
 ghost use Rattle.fr_core.specs.declared.program.Item.{Item as BodyItem};
 ghost use Rattle.fr_core.specs.WellFormed.{AreNumbered};
 ghost use Rattle.fr_meaning.specs.Evaluation.{eval_to, most_levels};

@@ -1,6 +1,6 @@
 //! How an expression's evaluation is made of those of its parts. What the recursion calls is kept out of line, so that a level
 //! takes little stack.
-ghost use Rattle.std.specs.Prelude.{◌≡◌, ◌++◌, ◌∷◌, [], IfOk, OnOk, Err, None};
+ghost use Rattle.std.specs.Prelude.{◌≡◌, ◌∷◌, [], IfOk, Err, None};
 ghost use Rattle.std.specs.Option.{option_or};
 ghost use Rattle.fr_meaning.specs.Words.{under, own};
 ghost use Rattle.fr_meaning.specs.States.{handler_end, state_now, of_operator, of_feedback, no_call};

@@ -1,6 +1,5 @@
 //! The values of inputs and sources at an instant.
 ghost use Rattle.std.specs.Prelude.{◌≡◌, ◌≤◌, ◌<◌, ◌+◌, ◌∷◌, ℕ, suc, true, pos, map, drop, unwrap_or, IfOk, length, slice_get, None};
-ghost use Rattle.std.specs.Option.{option_copied};
 ghost use Rattle.fr_core.specs.Sets.{value_in, greatest_time};
 ghost use Rattle.fr_core.specs.WellFormed.{last_source, AreNumbered, most_entries};
 ghost use Rattle.fr_meaning.specs.Afresh.{latest, source_now, sources_at};

@@ -1,5 +1,5 @@
 -- A command on its program's file, and a run on its script's.
-use Rattle.std.proofs.Common.{◌≡◌, ◌≢◌, ◌∙◌, ◌⊎◌, inl, inr, max, true, false, ℕ, List, [], ◌∷◌, length, take, ap, sym, subst, refl, arith, rules, None, Some, Ok, Err, IfSome, OnOk, IfErr, IsErrOf, Option, Result, codes}
+use Rattle.std.proofs.Common.{◌≡◌, ◌≢◌, ◌∙◌, ◌⊎◌, inl, inr, max, true, false, ℕ, List, [], ◌∷◌, length, take, ap, sym, subst, refl, arith, rules, None, Some, Ok, Err, IfSome, OnOk, IfErr, Option, Result, codes}
 use Rattle.std.specs.Io.KnownBytes.{Appends}
 use Rattle.std.specs.Str.{bytes_eq}
 use Rattle.std.proofs.lemmas.Slice.Eq.{bytes_eq-Decides}
@@ -10,7 +10,7 @@ use Rattle.fr_io.proofs.Counts as counting
 use Rattle.fr_io.proofs.Shelves.{any_rose, reads_then, reads_among, reads_if}
 use Rattle.fr_core.specs.declared.program.Program.{Program as Core}
 use Rattle.fr_show.specs.declared.stop.Stop.{Stop}
-use Rattle.fr_show.specs.declared.stop.Stop.TheVariants.{Script, Evaluation, Program, Read, Write, Memory}
+use Rattle.fr_show.specs.declared.stop.Stop.TheVariants.{Program, Read, Write, Memory}
 use Rattle.fr_show.specs.declared.acceptance.AcceptStop.{AcceptStop}
 use Rattle.fr_show.specs.declared.acceptance.AcceptStop.TheVariants.{Refused, Memory as NoMemory}
 use Rattle.fr_show.specs.Accepted.{IsProgram, Verdict, OnJudged, OnEachJudged}

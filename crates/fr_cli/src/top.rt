@@ -1,5 +1,5 @@
 //! The top call, which does what the words ask for over a shelf and two sinks.
-ghost use Rattle.std.specs.Prelude.{◌≡◌, ◌≢◌, ◌≤◌, ◌↔◌, ◌⊎◌, ◌∷◌, ◌+◌, ℕ, List, [], length, None, Some, IfOk, IfErr, IfSome};
+ghost use Rattle.std.specs.Prelude.{◌≡◌, ◌≢◌, ◌≤◌, ◌↔◌, ◌⊎◌, ◌∷◌, ℕ, List, [], length, None, Some, IfOk, IfErr, IfSome};
 ghost use Rattle.std.specs.Io.KnownBytes.{Appends};
 ghost use Rattle.fr_io.specs.Faults.{Rose, AnyRose, FailsAs, NoneFalls, NoneMoves};
 ghost use Rattle.fr_io.specs.Files.{AppendsSome, ReachesFront};

@@ -1,5 +1,5 @@
 //! What is wrong with the names of an expression.
-ghost use Rattle.std.specs.Prelude.{◌≡◌, ◌≤◌, ◌+◌, ◌++◌, [], ◌∷◌, map, length, IfOk, OnOk};
+ghost use Rattle.std.specs.Prelude.{◌≡◌, ◌≤◌, ◌+◌, ◌++◌, map, length, IfOk, OnOk};
 ghost use Rattle.fr_syntax.specs.Weights.{weight};
 ghost use Rattle.fr_scope.specs.Meanings.{meaning_of, most_numbered};
 ghost use Rattle.fr_value.specs.Data.{total};

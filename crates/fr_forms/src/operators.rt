@@ -1,8 +1,8 @@
 //! The lines of the operators and of `feedback`.
 ghost use Rattle.std.specs.Prelude.{◌≡◌, ◌∷◌, [], IfOk, None};
-ghost use Rattle.std.specs.Option.{option_copied, option_or};
+ghost use Rattle.std.specs.Option.{option_copied};
 ghost use Rattle.fr_core.specs.declared.core_form.Operator.TheVariants as operator;
-ghost use Rattle.fr_meaning.specs.Words.{on_ok, part, datum_in, event_of};
+ghost use Rattle.fr_meaning.specs.Words.{on_ok, part, event_of};
 ghost use Rattle.fr_meaning.specs.States.{base_of, leftmost, change, is_spent, once_line as line_once, plain_or_bad, occurrence, fed, datum_next as next_datum, payload_next as next_payload, beside, refusal_in, refused_by, of_operator, of_feedback, no_call, state_now};
 ghost use Rattle.fr_forms.specs.Lent.{lent, earlier, cell_of, form_line};
 

@@ -1,5 +1,5 @@
 -- The primitives on lists, and the tests of any value.
-use Rattle.std.specs.Prelude.{ℤ, pos, negsuc, Bool, true, false, not, if◌then◌else◌, List, [], ◌∷◌, ◌++◌, slice_get, Option, Some, None, Ok, Err}
+use Rattle.std.specs.Prelude.{ℤ, pos, negsuc, Bool, true, false, not, if◌then◌else◌, List, [], ◌∷◌, slice_get, Option, Some, None, Ok, Err}
 use Rattle.std.specs.List.{flat_map}
 use Rattle.fr_value.specs.Data.{value_of, few}
 use Rattle.fr_value.specs.declared.value.Datum.{Datum}

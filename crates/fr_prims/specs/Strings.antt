@@ -1,5 +1,5 @@
 -- The primitives on strings and symbols.
-use Rattle.std.specs.Prelude.{ℕ, Bool, true, ◌&&◌, if◌then◌else◌, List, [], ◌∷◌, ◌++◌, Ok, Err}
+use Rattle.std.specs.Prelude.{ℕ, Bool, true, ◌&&◌, if◌then◌else◌, List, [], ◌∷◌, Ok, Err}
 use Rattle.std.specs.List.{flat_map}
 use Rattle.fr_value.specs.Bytes.{is_short}
 use Rattle.fr_value.specs.Same.{is_same}

@@ -1,6 +1,6 @@
 //! The shows of a program: what an instant prints of their values, and the last plain text of each.
 
-ghost use Rattle.std.specs.Prelude.{◌≡◌, ◌<◌, ◌++◌, ◌∷◌, [], List, ℕ, None, Some, Ok, length, map, IfOk, OnOk, OnErr, MatchOption, IsTrue, ◌↔◌};
+ghost use Rattle.std.specs.Prelude.{◌≡◌, ◌<◌, ◌++◌, ◌∷◌, [], List, ℕ, None, Some, Ok, length, map, IfOk, OnOk, OnErr, MatchOption};
 ghost use Rattle.fr_meaning.specs.Texts.{line, value_text, unless_last, shown_text, instant_text, next_each};
 ghost use Rattle.fr_show.specs.Output.{shows_of};
 ghost use Rattle.fr_show.specs.Shows.{plain_text, kept, kept_each, last_at};
