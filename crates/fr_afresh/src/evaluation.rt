@@ -7,8 +7,8 @@ ghost use Rattle.fr_meaning.specs.Evaluation.{eval_to, leaf, source_seen, parts,
 ghost use Rattle.fr_forms.specs.Lent.{bound};
 ghost use Rattle.fr_forms.specs.Begins.{args_of};
 ghost use Rattle.fr_forms.specs.Rounds.{number_of, rounds_left};
-ghost use Rattle.fr_afresh.specs.Outcomes.{without_cost, parts_without_cost, turns_on};
 ghost use Rattle.fr_afresh.specs.Trees.{tree};
+ghost use Rattle.fr_afresh.specs.Outcomes.{without_cost, parts_without_cost, turns_on};
 
 use crate::joining::{
     Done, Parts, Turns, choice_done, ended, feedback_done, handled, last_done, leaf_of, line_done,

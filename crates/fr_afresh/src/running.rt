@@ -3,8 +3,8 @@ ghost use Rattle.std.specs.Prelude.{◌≡◌, ◌<◌, ◌≤◌, length, slice
 ghost use Rattle.fr_core.specs.WellFormed.{IsWellFormed};
 ghost use Rattle.fr_meaning.specs.Afresh.{Instant, beginning, first_instant, instant as instant_after};
 ghost use Rattle.fr_afresh.specs.Stands.{evaluated_program, state_of, shown_of, Leaves, ErrsBy};
-ghost use Rattle.fr_afresh.specs.Progress.{IsProgressOf, IsClean};
 ghost use Rattle.fr_core.specs.Sets.{greatest_time};
+ghost use Rattle.fr_afresh.specs.Progress.{IsProgressOf, IsClean};
 
 use crate::bodies::{Progress, eval_body, good_values};
 use crate::joining::Around;

@@ -57,27 +57,6 @@ fn core_into(out: &mut Vec<u8>, e: &Core) -> Result<(), AllocError> {
     Ok(())
 }
 
-fn inputs_into(out: &mut Vec<u8>, inputs: &[Input]) -> Result<(), AllocError> {
-    for input in inputs {
-        word_into(out, "(input")?;
-        number_into(out, input.source.0)?;
-        name_into(out, &input.name)?;
-        value_into(out, &input.first)?;
-        word_into(out, ")\n")?;
-    }
-    Ok(())
-}
-
-fn events_into(out: &mut Vec<u8>, events: &[Event]) -> Result<(), AllocError> {
-    for event in events {
-        word_into(out, "(event")?;
-        number_into(out, event.source.0)?;
-        name_into(out, &event.name)?;
-        word_into(out, ")\n")?;
-    }
-    Ok(())
-}
-
 fn functions_into(out: &mut Vec<u8>, functions: &[Function]) -> Result<(), AllocError> {
     for function in functions {
         word_into(out, "(function")?;
@@ -107,6 +86,27 @@ fn item_into(out: &mut Vec<u8>, item: &Item) -> Result<(), AllocError> {
 fn body_into(out: &mut Vec<u8>, items: &[Item]) -> Result<(), AllocError> {
     for item in items {
         item_into(out, item)?;
+    }
+    Ok(())
+}
+
+fn inputs_into(out: &mut Vec<u8>, inputs: &[Input]) -> Result<(), AllocError> {
+    for input in inputs {
+        word_into(out, "(input")?;
+        number_into(out, input.source.0)?;
+        name_into(out, &input.name)?;
+        value_into(out, &input.first)?;
+        word_into(out, ")\n")?;
+    }
+    Ok(())
+}
+
+fn events_into(out: &mut Vec<u8>, events: &[Event]) -> Result<(), AllocError> {
+    for event in events {
+        word_into(out, "(event")?;
+        number_into(out, event.source.0)?;
+        name_into(out, &event.name)?;
+        word_into(out, ")\n")?;
     }
     Ok(())
 }

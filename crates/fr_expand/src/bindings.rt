@@ -1,9 +1,9 @@
 //! The names that a form binds: which of them are keywords or stand twice, and their scope.
 ghost use Rattle.std.specs.Prelude.{◌≡◌, ◌≤◌, ◌+◌, ◌++◌, false, length, IfOk, OnOk};
 ghost use Rattle.std.specs.Str.{bytes_eq};
+ghost use Rattle.fr_scope.specs.Meanings.{most_numbered};
 ghost use Rattle.fr_expand.specs.Faults.{is_keyword, any_keyword, any_twice, binding_faults, chain_faults, named};
 ghost use Rattle.fr_expand.specs.Shapes.{names_of};
-ghost use Rattle.fr_scope.specs.Meanings.{most_numbered};
 
 use crate::faults::Faults;
 use crate::view::Names;

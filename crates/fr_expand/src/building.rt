@@ -2,12 +2,12 @@
 ghost use Rattle.std.specs.Prelude.{◌≡◌, ◌+◌, ◌<◌, ◌≤◌, [], map, length, IfOk, OnOk};
 ghost use Rattle.fr_value.specs.Data.{total};
 ghost use Rattle.fr_syntax.specs.Weights.{form_weight, weight};
+ghost use Rattle.fr_scope.specs.Meanings.{most_numbered};
 ghost use Rattle.fr_expand.specs.Expansion.{events_from, functions_in, inputs_from, items_from, program_in};
 ghost use Rattle.fr_expand.specs.Faults.{named};
 ghost use Rattle.fr_expand.specs.Items.{item_of, values_behind};
 ghost use Rattle.fr_expand.specs.Shaped.{names_in, AreNamed};
 ghost use Rattle.fr_expand.specs.Translation.{core_of};
-ghost use Rattle.fr_scope.specs.Meanings.{most_numbered};
 
 use crate::bindings::scope_of;
 use crate::translation::core_in;

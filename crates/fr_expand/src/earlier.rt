@@ -1,10 +1,10 @@
 //! What earlier forms of a program define, and what is wrong with the names of a form behind them.
 ghost use Rattle.std.specs.Prelude.{◌≡◌, ◌+◌, ◌≤◌, ◌<◌, false, length, IfOk, OnOk};
 ghost use Rattle.fr_syntax.specs.Weights.{form_weight, weight};
+ghost use Rattle.fr_scope.specs.Meanings.{most_numbered};
 ghost use Rattle.fr_expand.specs.Faults.{faults, named};
 ghost use Rattle.fr_expand.specs.Passes.{behind, definition_faults, form_faults, is_reserved, nothing_yet, show_faults};
 ghost use Rattle.fr_expand.specs.Shaped.{earlier_of, is_taken, AreNamed};
-ghost use Rattle.fr_scope.specs.Meanings.{most_numbered};
 
 use crate::bindings::{binding_faults, scope_of};
 use crate::faults::{Faults, faults_in};

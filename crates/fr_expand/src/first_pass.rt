@@ -6,8 +6,8 @@ ghost use Rattle.fr_syntax.specs.Weights.{form_weight};
 ghost use Rattle.fr_expand.specs.Items.{form_core};
 ghost use Rattle.fr_expand.specs.Passes.{fault_kind, form_kind, nests, nothing_yet, refusal_from};
 ghost use Rattle.fr_expand.specs.Shaped.{earlier_of, AreNamed};
-ghost use Rattle.fr_scope.specs.Meanings.{most_numbered};
 ghost use Rattle.fr_core.specs.WellFormed.{deepest_nesting};
+ghost use Rattle.fr_scope.specs.Meanings.{most_numbered};
 
 use crate::depth::depth;
 use crate::earlier::EarlierNames;

@@ -3,10 +3,10 @@ ghost use Rattle.std.specs.Prelude.{◌≡◌, ◌≤◌, ◌+◌, ◌++◌, [],
 ghost use Rattle.fr_core.specs.declared.core_form.Core.TheVariants as core;
 ghost use Rattle.fr_syntax.specs.Weights.{weight};
 ghost use Rattle.fr_value.specs.Data.{total};
+ghost use Rattle.fr_scope.specs.Meanings.{most_numbered};
 ghost use Rattle.fr_expand.specs.Faults.{named};
 ghost use Rattle.fr_expand.specs.Shapes.{exprs_of, names_of};
 ghost use Rattle.fr_expand.specs.Translation.{core_of, each_core, chained_core, cond_core, and_core, or_core};
-ghost use Rattle.fr_scope.specs.Meanings.{most_numbered};
 
 use crate::bindings::bind;
 use crate::cores::{call_core, given_or, truth, value_core};

@@ -1,7 +1,7 @@
 ghost use Rattle.std.specs.Prelude.{◌≤◌, IfOk, IfSome};
 ghost use Rattle.fr_core.specs.WellFormed.{IsWellFormed};
-ghost use Rattle.fr_afresh.specs.Stands.{evaluated_program};
 ghost use Rattle.fr_core.specs.Sets.{greatest_time};
+ghost use Rattle.fr_afresh.specs.Stands.{evaluated_program};
 
 use crate::calls::{Call, Lines, is_told};
 use crate::told::Told;
