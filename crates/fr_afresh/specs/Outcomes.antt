@@ -1,16 +1,16 @@
 -- What code tells of an evaluation: all but its cost.
-use Rattle.std.specs.Option.{option_or}
 use Rattle.std.specs.Prelude.{ℕ, [], ◌∷◌, ◌++◌, None}
-use Rattle.fr_core.specs.declared.kept.Kept.TheVariants as kept
+use Rattle.std.specs.Option.{option_or}
 use Rattle.fr_core.specs.declared.kept.Kept.{Kept}
-use Rattle.fr_meaning.specs.Cells.{with_cell}
-use Rattle.fr_meaning.specs.Evaluation.{Parts as EvaluatedParts, Turns as LoopTurns, refusal_first}
-use Rattle.fr_meaning.specs.States.{Line, Called}
+use Rattle.fr_core.specs.declared.kept.Kept.TheVariants as kept
 use Rattle.fr_meaning.specs.Words.{Seen, First, Done as Evaluated, under, own}
-use Rattle.fr_afresh.specs.declared.joining.Around.{Around}
-use Rattle.fr_afresh.specs.declared.joining.Turns.{Turns}
-use Rattle.fr_afresh.specs.declared.joining.Parts.{Parts}
+use Rattle.fr_meaning.specs.Cells.{with_cell}
+use Rattle.fr_meaning.specs.States.{Line, Called}
+use Rattle.fr_meaning.specs.Evaluation.{Parts as EvaluatedParts, Turns as LoopTurns, refusal_first}
 use Rattle.fr_afresh.specs.declared.joining.Done.{Done}
+use Rattle.fr_afresh.specs.declared.joining.Around.{Around}
+use Rattle.fr_afresh.specs.declared.joining.Parts.{Parts}
+use Rattle.fr_afresh.specs.declared.joining.Turns.{Turns}
 
 -- what is told of an evaluation
 abbrev pub without_cost : Evaluated → Done

@@ -1,8 +1,8 @@
 -- What code tells of a body that was evaluated.
 use Rattle.std.specs.Prelude.{◌≡◌, None}
 use Rattle.fr_meaning.specs.Afresh.{Evaluated}
-use Rattle.fr_afresh.specs.Bodies.{all_good}
 use Rattle.fr_afresh.specs.declared.bodies.Progress.{Progress}
+use Rattle.fr_afresh.specs.Bodies.{all_good}
 
 -- what was done tells of items that were evaluated
 pub record IsProgressOf (p : Progress) (n : Evaluated) : Type 0 where
