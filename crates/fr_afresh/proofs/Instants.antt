@@ -16,9 +16,9 @@ use Rattle.fr_afresh.specs.declared.running.Afresh.{Afresh}
 use Rattle.fr_afresh.specs.declared.running.AfreshStop.{AfreshStop}
 use Rattle.fr_afresh.specs.Bodies.{whole, unbegun, all_good}
 use Rattle.fr_afresh.specs.Stands.{Leaves, ErrsBy}
+use Rattle.fr_afresh.specs.Progress.{IsProgressOf, IsClean}
 use Rattle.fr_meaning.proofs.Good.{items_good}
 use Rattle.fr_afresh.proofs.Good.{some_good, all_good_map}
-use Rattle.fr_afresh.specs.Progress.{IsProgressOf, IsClean}
 
 or_none : (f : First) → option_or f None ≡ f
 or_none None = refl

@@ -9,8 +9,8 @@ use Rattle.fr_meaning.specs.Evaluation.{Ev, eval_to, most_levels}
 use Rattle.fr_meaning.specs.Dependence.{item_expr}
 use Rattle.fr_afresh.specs.declared.bodies.Progress.{Progress}
 use Rattle.fr_afresh.specs.Bodies.{behind_item, whole}
-use Rattle.fr_afresh.proofs.bodies.next_item.Goals as goal
 use Rattle.fr_afresh.specs.Outcomes.{without_cost}
+use Rattle.fr_afresh.proofs.bodies.next_item.Goals as goal
 
 or_assoc : (a b c : First) → option_or (option_or a b) c ≡ option_or a (option_or b c)
 or_assoc None b c = refl

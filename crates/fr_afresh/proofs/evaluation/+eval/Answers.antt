@@ -7,8 +7,8 @@ use Rattle.fr_meaning.specs.Words.{First, Done as Evaluated, under}
 use Rattle.fr_meaning.specs.States.{Line}
 use Rattle.fr_meaning.specs.Evaluation.{join_part, no_parts, line_done}
 use Rattle.fr_meaning.proofs.Levels.{at_zero, at_level}
-use Rattle.fr_afresh.proofs.evaluation.+eval.Goals as goal
 use Rattle.fr_afresh.specs.Outcomes.{without_cost, unbegun_around, with_kept, lined}
+use Rattle.fr_afresh.proofs.evaluation.+eval.Goals as goal
 
 pub eval-returns-then-left-eq0-clause-value : goal.eval-returns-then-left-eq0-clause-value
 eval-returns-then-left-eq0-clause-value t c = rw (at_zero _ _ _ _ _ c.if-left-eq0.true, c.too_deep.ensures) refl
