@@ -2,8 +2,8 @@ use Rattle.std.proofs.Common.{ℕ, ◌≡◌, ◌+◌, ◌*◌, None, length, dr
 use Rattle.fr_meaning.specs.Evaluation.{eval_to, parts, body_with, turns}
 use Rattle.fr_forms.specs.Rounds.{number_of, rounds_left}
 use Rattle.fr_afresh.specs.Trees.{tree}
-use Rattle.fr_afresh.proofs.evaluation.+eval.Given as goal
 use Rattle.fr_afresh.specs.Outcomes.{parts_without_cost, parts_on, turns_on}
+use Rattle.fr_afresh.proofs.evaluation.+eval.Given as goal
 
 -- the measure where so many levels are left, and so many calls may follow one another at most before the next level
 abbrev on_level : ℕ → ℕ → ℕ

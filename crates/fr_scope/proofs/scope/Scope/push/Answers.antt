@@ -2,8 +2,8 @@ use Rattle.std.proofs.Common.{◌<◌, sym, ◌∙◌, ap, ◌≡◌, string_byt
 use Rattle.std.proofs.lemmas.Map.Text.{hash_map_updates_text}
 use Rattle.fr_scope.specs.Hiding.{binders, variable_in}
 use Rattle.fr_scope.proofs.Hiding.{one_more}
-use Rattle.fr_scope.proofs.scope.Scope.push.Goals as goal
 use Rattle.fr_scope.specs.Meanings.{most_numbered}
+use Rattle.fr_scope.proofs.scope.Scope.push.Goals as goal
 
 pub invariant_of-self-2 : goal.invariant_of-self-2
 invariant_of-self-2 c =
