@@ -1,6 +1,6 @@
 //! Rows of tables: a call, the text that it is made on, and what is told of the answer.
 use crate::told::Told;
-use crate::{data, errors, names, programs, purity, scripts};
+use crate::{data, names, programs, purity, scripts};
 use std::alloc::Global;
 
 /// What is called on the text of a row.
@@ -92,7 +92,7 @@ pub(crate) fn is_told(alloc: Global, call: Call, line: &str) -> bool {
 }
 
 /// The first line of which something else is told, if there is one.
-fn wrong_line(alloc: Global, call: Call, lines: Lines) -> Option<&'static str> {
+pub(crate) fn wrong_line(alloc: Global, call: Call, lines: Lines) -> Option<&'static str> {
     for line in lines {
         if !is_told(alloc, call, line) {
             return Some(*line);
@@ -114,7 +114,6 @@ const TABLES: &[(Call, Lines)] = &[
     (Call::Shown, programs::EXPRESSIONS),
     (Call::Classes, purity::CLASSES),
     (Call::Fitness, purity::FITNESS),
-    (Call::Error(""), errors::ERRORS),
 ];
 
 #[test]

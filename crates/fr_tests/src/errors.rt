@@ -3,7 +3,7 @@ ghost use Rattle.fr_core.specs.WellFormed.{IsWellFormed};
 ghost use Rattle.fr_core.specs.Sets.{greatest_time};
 ghost use Rattle.fr_afresh.specs.Stands.{evaluated_program};
 
-use crate::calls::{Call, Lines, is_told};
+use crate::calls::{Call, Lines, is_told, wrong_line};
 use crate::told::Told;
 use fr_afresh::{Afresh, AfreshStop, FirstBad};
 use fr_core::{Inputs, Path, Program, Sets};
@@ -115,7 +115,7 @@ pub(crate) fn tell_error(alloc: Global, out: &mut Told, program: Program, script
 }
 
 /// Programs over an empty script, and the time, the path and the kind of the first error.
-pub(crate) const ERRORS: Lines = &[
+const ERRORS: Lines = &[
     "(define a (car '()))(show b 1) => 0: 0 Empty",
     "(show a (car '()))(show b (quotient 1 0)) => 0: 0 Empty",
     "(show a (let ((y (car '())) (z (quotient 1 0))) 1)) => 0: 0.0 Empty",
@@ -201,5 +201,6 @@ fn wrong_over_script(alloc: Global) -> Option<&'static str> {
 
 #[test]
 fn first_errors_have_their_time_path_and_kind(rt: HostRuntime) {
+    assert_eq!(rt; wrong_line(rt.alloc(), Call::Error(""), ERRORS), None);
     assert_eq!(rt; wrong_over_script(rt.alloc()), None);
 }
