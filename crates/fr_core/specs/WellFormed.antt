@@ -119,14 +119,6 @@ AreDistinct (n ∷ ns) = (Contains ns n → ⊥) × AreDistinct ns
 abbrev pub most_entries : ℕ
 most_entries = 4294967295
 
--- the deepest nesting of an expression
-abbrev pub deepest_nesting : ℕ
-deepest_nesting = 500
-
--- the variables in scope at any place are fewer than this
-abbrev pub variable_limit : ℕ
-variable_limit = 4294967296
-
 -- the sources of inputs and events are together the numbers from 1 on, each once, and rise in each of the two lists
 pub record AreNumbered (p : Program) : Type 0 where
   pub inputs_rise : Rises (input_sources p)
@@ -153,7 +145,7 @@ pub record IsWellFormed (p : Program) : Type 0 where
   pub scoped : are_scoped (length p.functions) (last_source p) (roots p) ≡ true
   pub numbered : AreNumbered p
   pub named : AreDistinct (map (λ i. i.name) p.inputs ++ map (λ e. e.name) p.events)
-  pub shallow : greatest (map (λ r. nesting r.expr) (roots p)) ≤ deepest_nesting
+  pub shallow : greatest (map (λ r. nesting r.expr) (roots p)) ≤ 500
   pub short : AreShort p
-  pub narrow : greatest (map (λ r. r.variables + widest r.expr) (roots p)) < variable_limit
+  pub narrow : greatest (map (λ r. r.variables + widest r.expr) (roots p)) < 4294967296
   pub small : total (map (λ r. count r.expr) (roots p)) < 2 ^ 40

@@ -1,5 +1,4 @@
-//! What a script sets at an instant.
-ghost use Rattle.std.specs.Prelude.{◌≡◌, [], None, length, slice_get, OnOk, OnErr};
+ghost use Rattle.std.specs.Prelude.{◌≡◌, ℕ, [], None, length, slice_get, OnOk, OnErr};
 ghost use Rattle.std.specs.Option.{option_copied, option_map};
 ghost use Rattle.fr_core.specs.Sets.{AreRising, value_in, place_in, placed};
 

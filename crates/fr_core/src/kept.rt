@@ -1,4 +1,3 @@
-//! What an evaluation keeps for the next instant.
 use fr_value::Value;
 use sqlite_items::{Boxed, Items};
 

@@ -1,4 +1,3 @@
-//! The way to an expression, by the numbers of the parts that are entered.
 ghost use Rattle.std.specs.Prelude.{◌≡◌, [], ◌∷◌, length, slice_get, OnOk};
 
 use std::alloc::{AllocError, Global};

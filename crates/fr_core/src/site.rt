@@ -1,4 +1,3 @@
-//! The expression of a lowered program that carries a number.
 ghost use Rattle.std.specs.Prelude.{◌≡◌, [], ◌∷◌, IsTrue, ◌↔◌, Some, map};
 ghost use Rattle.std.specs.Option.{option_copied};
 ghost use Rattle.fr_core.specs.Sites.{Finds, site_of, bodies, item_expr};

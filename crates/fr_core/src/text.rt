@@ -1,4 +1,3 @@
-//! The text of a core program, which tests compare.
 use crate::core_form::{Core, Operator};
 use crate::program::{Event, Function, Input, Item, Program};
 use crate::words::{core_word, prim_word};
@@ -57,15 +56,27 @@ fn core_into(out: &mut Vec<u8>, e: &Core) -> Result<(), AllocError> {
     Ok(())
 }
 
-fn functions_into(out: &mut Vec<u8>, functions: &[Function]) -> Result<(), AllocError> {
-    for function in functions {
-        word_into(out, "(function")?;
-        name_into(out, &function.name)?;
-        number_into(out, function.params)?;
-        core_into(out, &function.body)?;
-        word_into(out, ")\n")?;
-    }
-    Ok(())
+fn input_into(out: &mut Vec<u8>, input: &Input) -> Result<(), AllocError> {
+    word_into(out, "(input")?;
+    number_into(out, input.source.0)?;
+    name_into(out, &input.name)?;
+    value_into(out, &input.first)?;
+    word_into(out, ")\n")
+}
+
+fn event_into(out: &mut Vec<u8>, event: &Event) -> Result<(), AllocError> {
+    word_into(out, "(event")?;
+    number_into(out, event.source.0)?;
+    name_into(out, &event.name)?;
+    word_into(out, ")\n")
+}
+
+fn function_into(out: &mut Vec<u8>, function: &Function) -> Result<(), AllocError> {
+    word_into(out, "(function")?;
+    name_into(out, &function.name)?;
+    number_into(out, function.params)?;
+    core_into(out, &function.body)?;
+    word_into(out, ")\n")
 }
 
 fn item_into(out: &mut Vec<u8>, item: &Item) -> Result<(), AllocError> {
@@ -83,30 +94,30 @@ fn item_into(out: &mut Vec<u8>, item: &Item) -> Result<(), AllocError> {
     word_into(out, ")\n")
 }
 
-fn body_into(out: &mut Vec<u8>, items: &[Item]) -> Result<(), AllocError> {
-    for item in items {
-        item_into(out, item)?;
-    }
-    Ok(())
-}
-
 fn inputs_into(out: &mut Vec<u8>, inputs: &[Input]) -> Result<(), AllocError> {
     for input in inputs {
-        word_into(out, "(input")?;
-        number_into(out, input.source.0)?;
-        name_into(out, &input.name)?;
-        value_into(out, &input.first)?;
-        word_into(out, ")\n")?;
+        input_into(out, input)?;
     }
     Ok(())
 }
 
 fn events_into(out: &mut Vec<u8>, events: &[Event]) -> Result<(), AllocError> {
     for event in events {
-        word_into(out, "(event")?;
-        number_into(out, event.source.0)?;
-        name_into(out, &event.name)?;
-        word_into(out, ")\n")?;
+        event_into(out, event)?;
+    }
+    Ok(())
+}
+
+fn functions_into(out: &mut Vec<u8>, functions: &[Function]) -> Result<(), AllocError> {
+    for function in functions {
+        function_into(out, function)?;
+    }
+    Ok(())
+}
+
+fn body_into(out: &mut Vec<u8>, items: &[Item]) -> Result<(), AllocError> {
+    for item in items {
+        item_into(out, item)?;
     }
     Ok(())
 }

@@ -1,4 +1,3 @@
-//! The words that core expressions have in texts.
 use crate::core_form::{Core, Handler, Loop, Operator};
 use fr_value::Primitive;
 

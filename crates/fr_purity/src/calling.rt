@@ -1,4 +1,3 @@
-//! Which functions call which.
 ghost use Rattle.std.specs.Prelude.{◌≡◌, ℕ, ◌++◌, [], length, IfOk, OnOk};
 ghost use Rattle.fr_core.specs.declared.core_form.Core.{out-Core};
 ghost use Rattle.fr_purity.specs.Calls.{calls_itself, calls};

@@ -1,4 +1,3 @@
-//! The closed and the pure functions of a program.
 ghost use Rattle.std.specs.Prelude.{IfOk};
 ghost use Rattle.fr_purity.specs.Marks.{AreClasses};
 

@@ -1,4 +1,3 @@
-//! Whether an expression of a program is pure, and whether it is fit.
 ghost use Rattle.std.specs.Prelude.{◌↔◌, IsTrue};
 ghost use Rattle.fr_core.specs.Classes.{IsPureExpr, IsFitExpr};
 ghost use Rattle.fr_purity.specs.Marks.{AreClasses};

@@ -1,4 +1,3 @@
-//! Whether expressions are pure and fit, where these functions count as pure.
 ghost use Rattle.std.specs.Prelude.{◌≡◌, ◌&&◌, IfOk};
 ghost use Rattle.fr_core.specs.Classes.{judge, calls_of, pure_itself, body_passes};
 ghost use Rattle.fr_core.specs.declared.core_form.Core.{out-Core};

@@ -1,4 +1,3 @@
-//! Which functions name no source and call only functions that are there.
 ghost use Rattle.std.specs.Prelude.{◌≡◌, length, map, IfOk};
 ghost use Rattle.fr_core.specs.Classes.{closed_itself, names_only};
 ghost use Rattle.fr_core.specs.declared.core_form.Core.{out-Core};

@@ -1,4 +1,3 @@
-//! Takes marks from functions, and from all that call them.
 ghost use Rattle.std.specs.Prelude.{◌≡◌, ◌++◌, false, length, slice_set, IfOk, OnOk};
 ghost use Rattle.fr_purity.specs.Marks.{set_of};
 ghost use Rattle.fr_purity.specs.Removal.{AreUnmarked, IsGreatest, list_at, marked_among, without};

@@ -85,27 +85,25 @@ behind_delimited : (ds : List Datum) (c : ℕ) (more : List ℕ) → is_delimite
 behind_delimited [] c more h = h
 behind_delimited (d ∷ ds) c more h = refl
 
--- one more datum in front of those that read again, where the text in front of it is passed over as the datum's own
-again_before : (one : Begins) (d : Datum) (ds : List Datum) (c : ℕ) (more t : List ℕ) → is_delimiter c ≡ true
-    → past_gap t ≡ past_gap ((datum_text d ++ spaced_behind (map datum_text ds)) ++ c ∷ more) → Again one d
-    → Items one (spaced_behind (map datum_text ds) ++ c ∷ more) ds (c ∷ more) → Items one t (d ∷ ds) (c ∷ more)
-again_before one d ds c more t h gap again rest =
-    let after = spaced_behind (map datum_text ds) ++ c ∷ more in
-    let k = again after (behind_delimited ds c more h) in
-    let front : past_gap t ≡ datum_text d ++ after = gap ∙ ap past_gap (append_assoc (datum_text d) (spaced_behind (map datum_text ds)) (c ∷ more)) ∙ k.0 in
-    (after, subst (λ x. one x d after) (sym front) k.1, rest)
-
 behind_again : (one : Begins) (ds : List Datum) (c : ℕ) (more : List ℕ) → is_delimiter c ≡ true → past_gap (c ∷ more) ≡ c ∷ more → EachAgain one ds
     → Items one (spaced_behind (map datum_text ds) ++ c ∷ more) ds (c ∷ more)
 behind_again one [] c more h g u = sym g
 behind_again one (d ∷ ds) c more h g u =
-    again_before one d ds c more (spaced_behind (map datum_text (d ∷ ds)) ++ c ∷ more) h (past_space _) u.0 (behind_again one ds c more h g u.1)
+    let after = spaced_behind (map datum_text ds) ++ c ∷ more in
+    let text = (datum_text d ++ spaced_behind (map datum_text ds)) ++ c ∷ more in
+    let k = u.0 after (behind_delimited ds c more h) in
+    let front : past_gap (32 ∷ text) ≡ datum_text d ++ after = past_space text ∙ ap past_gap (append_assoc (datum_text d) (spaced_behind (map datum_text ds)) (c ∷ more)) ∙ k.0 in
+    (after, subst (λ x. one x d after) (sym front) k.1, behind_again one ds c more h g u.1)
 
 items_again : (one : Begins) (ds : List Datum) (c : ℕ) (more : List ℕ) → is_delimiter c ≡ true → past_gap (c ∷ more) ≡ c ∷ more → EachAgain one ds
     → Items one (spaced (map datum_text ds) ++ c ∷ more) ds (c ∷ more)
 items_again one [] c more h g u = sym g
 items_again one (d ∷ ds) c more h g u =
-    again_before one d ds c more (spaced (map datum_text (d ∷ ds)) ++ c ∷ more) h refl u.0 (behind_again one ds c more h g u.1)
+    let after = spaced_behind (map datum_text ds) ++ c ∷ more in
+    let text = (datum_text d ++ spaced_behind (map datum_text ds)) ++ c ∷ more in
+    let k = u.0 after (behind_delimited ds c more h) in
+    let front : past_gap text ≡ datum_text d ++ after = ap past_gap (append_assoc (datum_text d) (spaced_behind (map datum_text ds)) (c ∷ more)) ∙ k.0 in
+    (after, subst (λ x. one x d after) (sym front) k.1, behind_again one ds c more h g u.1)
 
 list_again : (one : Begins) (ds : List Datum) → AreFew ds → EachAgain one ds → Again (Layer one) (datum.Seq ds)
 list_again one ds f u more m =

@@ -1,5 +1,4 @@
-//! Runs of bytes at the front of a text: blanks, atoms and strings.
-ghost use Rattle.std.specs.Prelude.{◌≡◌, ◌≤◌, ◌+◌, length, IfOk, IfSome, false};
+ghost use Rattle.std.specs.Prelude.{◌≡◌, ◌≤◌, ◌+◌, ℕ, length, IfOk, IfSome, false};
 ghost use Rattle.std.specs.Option.{option_map};
 ghost use Rattle.fr_value.specs.Bytes.{is_blank, is_delimiter, past_gap, atom, past_atom, string, escape};
 

@@ -1,4 +1,3 @@
-//! Whole texts, as the data that they read as.
 ghost use Rattle.std.specs.Prelude.{◌≡◌, ◌+◌, ◌*◌, ◌≤◌, ◌<◌, ◌^◌, ℕ, List as PlainList, length, map, IfOk, IfErr, Err};
 ghost use Rattle.fr_value.specs.declared.value.Datum.{Datum};
 ghost use Rattle.fr_value.specs.Data.{datum_of, data_of, total, datum_size};
