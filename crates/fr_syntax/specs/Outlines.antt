@@ -42,5 +42,5 @@ outline_of (value.List (head ∷ second ∷ ds)) = given (keyword_of (value_of h
 outline_of v = None
 
 -- what the code's outline tells
-abbrev pub outlined_global : Outline → Global
-outlined_global o = (o.name.now, o.sort)
+abbrev pub told : Outline → Global
+told o = (o.name.now, o.sort)

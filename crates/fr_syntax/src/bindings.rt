@@ -1,4 +1,3 @@
-//! Bindings, as they stand in a `let`.
 #![tactic(auto, using(crate::proofs::Opened::opened))]
 
 ghost use Rattle.std.specs.Prelude.{◌≡◌};

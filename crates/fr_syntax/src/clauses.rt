@@ -1,4 +1,3 @@
-//! The clauses of a `cond`.
 #![tactic(auto, using(crate::proofs::Opened::opened))]
 
 ghost use Rattle.std.specs.Prelude.{◌≡◌};

@@ -1,4 +1,3 @@
-//! The expression that a value is.
 ghost use Rattle.std.specs.Prelude.{◌≡◌, IfOk};
 ghost use Rattle.std.specs.Option.{option_map};
 ghost use Rattle.fr_syntax.specs.declared.expr.Expr.TheVariants as expr;

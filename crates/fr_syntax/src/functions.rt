@@ -1,7 +1,7 @@
-//! The parameters and the body of a function that a form defines.
 #![tactic(auto, using(crate::proofs::Opened::opened))]
 
 ghost use Rattle.std.specs.Prelude.{◌≡◌, IfOk};
+ghost use Rattle.std.specs.Option.{option_and_then};
 ghost use Rattle.fr_value.specs.Data.{data_of, datum_of};
 ghost use Rattle.fr_syntax.specs.Shapes.{symbols, function_form};
 

@@ -1,4 +1,3 @@
-//! A `lambda` of one parameter or of two, as it stands in a form.
 #![tactic(auto, using(crate::proofs::Opened::opened))]
 
 ghost use Rattle.std.specs.Prelude.{◌≡◌};

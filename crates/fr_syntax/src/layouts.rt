@@ -1,4 +1,3 @@
-//! How forms of expressions are laid out, and the expression that each is with its parts filled in.
 ghost use Rattle.std.specs.Prelude.{◌≡◌, IfOk};
 ghost use Rattle.std.specs.Option.{option_map};
 ghost use Rattle.fr_syntax.specs.declared.expr.Expr.TheVariants as expr;

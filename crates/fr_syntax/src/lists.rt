@@ -1,7 +1,6 @@
-//! Values taken apart as lists of so many items.
 ghost use Rattle.std.specs.Prelude.{◌≡◌, IfOk};
 ghost use Rattle.std.specs.Option.{option_map, option_and_then};
-ghost use Rattle.fr_value.specs.Data.{data_of};
+ghost use Rattle.fr_value.specs.Data.{data_of, datum_of};
 ghost use Rattle.fr_syntax.specs.Shapes.{items_of, one_in, two_in, three_in};
 ghost use Rattle.fr_syntax.specs.Layouts.{datum_at, listed_at, two_at, three_at, AreItems};
 

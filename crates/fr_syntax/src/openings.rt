@@ -1,4 +1,3 @@
-//! The layout of the form that a list is, by the keyword that it begins with.
 #![tactic(auto, using(crate::proofs::Opened::opened))]
 
 ghost use Rattle.std.specs.Prelude.{◌≡◌};

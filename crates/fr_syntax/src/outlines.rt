@@ -1,7 +1,6 @@
-//! The global name that a form gives by its first two items.
 ghost use Rattle.std.specs.Prelude.{◌≡◌};
 ghost use Rattle.std.specs.Option.{option_map};
-ghost use Rattle.fr_syntax.specs.Outlines.{symbol_of, keyword_of, head_symbol, given, outline_of as outlined, outlined_global};
+ghost use Rattle.fr_syntax.specs.Outlines.{symbol_of, keyword_of, head_symbol, given, outline_of as outlined, told};
 
 use crate::keyword::{Keyword, keyword_named};
 use fr_value::{Symbol, Value};
@@ -23,7 +22,7 @@ pub struct Outline<'a> {
 /// The global name that a form gives by its first two items, whether it is well formed or not: the name of
 /// `(define-input NAME ..)`, `(define-event NAME ..)` or `(define (NAME ..) ..)`. It takes no memory.
 pub fn outline_of(form: &Value) -> Option<Outline<'_>>
-    ensures { option_map outlined_global result ≡ outlined form.now }
+    ensures { option_map told result ≡ outlined form.now }
 {
     let Value::List(list) = form else {
         return None;
@@ -36,7 +35,7 @@ pub fn outline_of(form: &Value) -> Option<Outline<'_>>
 
 /// The name that a form with this keyword and this second item gives.
 fn given(keyword: Option<Keyword>, second: &Value) -> Option<Outline<'_>>
-    ensures { option_map outlined_global result ≡ given keyword second.now }
+    ensures { option_map told result ≡ given keyword second.now }
 {
     match keyword {
         Some(Keyword::DefineInput) => outlined(symbol_of(second), Sort::Input),
@@ -47,7 +46,7 @@ fn given(keyword: Option<Keyword>, second: &Value) -> Option<Outline<'_>>
 }
 
 fn outlined(name: Option<&Symbol>, sort: Sort) -> Option<Outline<'_>>
-    ensures { option_map outlined_global result ≡ option_map (λ n. (n.now, sort)) name.entry }
+    ensures { option_map told result ≡ option_map (λ n. (n.now, sort)) name.entry }
 {
     match name {
         Some(name) => Some(Outline { name, sort }),

@@ -1,4 +1,3 @@
-//! Parts of forms, joined to what is made of them.
 ghost use Rattle.std.specs.Prelude.{◌≡◌, ◌++◌, ◌∷◌, [], IfOk, OnOk};
 ghost use Rattle.fr_syntax.specs.Parts.{beside};
 

@@ -1,40 +1,36 @@
-use Rattle.std.proofs.Common.{ℕ, ◌≡◌, ◌++◌, ◌+◌, ◌*◌, drop}
+use Rattle.std.proofs.Common.{◌≡◌, ◌++◌, ◌+◌, ◌*◌, drop}
 use Rattle.std.specs.Option.{option_map}
 use Rattle.fr_value.specs.Data.{data_of}
 use Rattle.fr_syntax.specs.Shapes.{expr_to, each, bindings}
 use Rattle.fr_syntax.specs.Layouts.{clauses_before}
 use Rattle.fr_syntax.proofs.exprs.+expr.Given as goal
 
--- the measure where so many levels are left, and so many calls may follow one another at most before the next level
-abbrev on_level : ℕ → ℕ → ℕ
-on_level levels calls = 5 * levels + calls
-
 abbrev pub decreases-expr : goal.decreases-expr
-decreases-expr l = on_level l.levels 0
+decreases-expr l = 5 * l.levels
 
 abbrev pub decreases-filled : goal.decreases-filled
-decreases-filled l = on_level l.levels 4
+decreases-filled l = 5 * l.levels + 4
 
 abbrev pub decreases-cond_parts : goal.decreases-cond_parts
-decreases-cond_parts l = on_level l.levels 3
+decreases-cond_parts l = 5 * l.levels + 3
 
 abbrev pub decreases-tests : goal.decreases-tests
-decreases-tests l = on_level l.levels 2
+decreases-tests l = 5 * l.levels + 2
 
 abbrev pub decreases-bound : goal.decreases-bound
-decreases-bound l = on_level l.levels 2
+decreases-bound l = 5 * l.levels + 2
 
 abbrev pub decreases-triple : goal.decreases-triple
-decreases-triple l = on_level l.levels 2
+decreases-triple l = 5 * l.levels + 2
 
 abbrev pub decreases-bindings : goal.decreases-bindings
-decreases-bindings l = on_level l.levels 1
+decreases-bindings l = 5 * l.levels + 1
 
 abbrev pub decreases-each : goal.decreases-each
-decreases-each l = on_level l.levels 1
+decreases-each l = 5 * l.levels + 1
 
 abbrev pub decreases-pair : goal.decreases-pair
-decreases-pair l = on_level l.levels 1
+decreases-pair l = 5 * l.levels + 1
 
 abbrev pub invariant-each-loop-item : goal.invariant-each-loop-item
 invariant-each-loop-item l = option_map (λ es. l.parts ++ es) (each (expr_to l.levels) (data_of (drop l.item-index l.items))) ≡ each (expr_to l.levels) (data_of l.items)
