@@ -18,7 +18,7 @@ use Rattle.fr_meaning.specs.Words.{Seen, Env, Done, under, part}
 use Rattle.fr_meaning.specs.Primitives.{applied}
 use Rattle.fr_meaning.specs.Cells.{Cell, child}
 use Rattle.fr_meaning.specs.States.{gives, of_operator, no_call, state_now}
-use Rattle.fr_meaning.specs.Evaluation.{world_of, Ev, Parts, parts, join_part, ended, leaf, source_seen, layer, after_parts, Choice, chosen_by, choice_kept, choice_done, test_refused, switch_done, call_done, body_for, turned, turns, turns_done, all_turns, rounds, body_with, loop_done, line_done, behind_cell, eval_to}
+use Rattle.fr_meaning.specs.Evaluation.{world_of, Ev, Parts, parts, join_part, ended, leaf, source_seen, layer, after_parts, Choice, chosen_by, choice_kept, choice_done, test_refused, switch_done, call_done, body_for, turned, turns, turns_done, all_turns, rounds, body_with, loop_done, line_done, behind_cell, eval_to, most_levels}
 use Rattle.fr_meaning.specs.Agreement.{IsSteady, IsSteadyOver}
 use Rattle.fr_meaning.specs.Dependence.{joined, own_source, sources_of, AgreeAt}
 use Rattle.fr_meaning.proofs.Begins.{choice_cases}
