@@ -2,7 +2,6 @@
 use Rattle.std.specs.Prelude.{ℕ, List, [], ◌∷◌, ◌++◌, Option, Some, None, Ok, Err}
 use Rattle.std.specs.Option.{option_or, option_map}
 use Rattle.fr_value.specs.declared.now.Now.{Now}
-use Rattle.fr_core.specs.declared.core_form.Core.{Core}
 use Rattle.fr_core.specs.declared.kept.Kept.{Kept}
 use Rattle.fr_core.specs.declared.program.Item.{Item}
 use Rattle.fr_core.specs.declared.program.Item.TheVariants as item
@@ -11,17 +10,12 @@ use Rattle.fr_meaning.specs.Evaluation.{Ev}
 use Rattle.fr_meaning.specs.Afresh.{Evaluated, items}
 use Rattle.fr_afresh.specs.declared.bodies.Progress.{Progress}
 use Rattle.fr_afresh.specs.declared.joining.Done.{Done}
-use Rattle.fr_afresh.specs.Told.{unbegun_around, joined}
-
--- the expression of an item
-abbrev pub item_expr : Item → Core
-item_expr (item.Define e) = e
-item_expr (item.Show name e) = e
+use Rattle.fr_afresh.specs.Outcomes.{unbegun_around, with_kept}
 
 -- the items so far, and behind them item number n: its value is bound for the items behind it, or shown
 abbrev pub behind_item : Progress → ℕ → Item → Done → Progress
-behind_item p n (item.Define e) d = record { env = p.env ++ d.value ∷ []; shown = p.shown; around = joined p.around n d.kept d.first }
-behind_item p n (item.Show name e) d = record { env = p.env; shown = p.shown ++ d.value ∷ []; around = joined p.around n d.kept d.first }
+behind_item p n (item.Define e) d = record { env = p.env ++ d.value ∷ []; shown = p.shown; around = with_kept p.around n d.kept d.first }
+behind_item p n (item.Show name e) d = record { env = p.env; shown = p.shown ++ d.value ∷ []; around = with_kept p.around n d.kept d.first }
 
 -- what all items give, at no cost, where these are left from number i on
 abbrev pub whole : Ev → Kept → ℕ → Progress → List Item → Evaluated

@@ -1,8 +1,8 @@
 pub mod Stands
 pub mod Choices
 pub mod Worlds
-pub mod Told
+pub mod Outcomes
 pub mod Trees
 pub mod Bodies
-pub mod Tells
+pub mod Progress
 pub mod Walks

@@ -8,8 +8,8 @@ use Rattle.fr_afresh.specs.declared.running.AfreshStop.{AfreshStop}
 use Rattle.fr_afresh.specs.declared.running.AfreshStop.TheVariants.{Memory, First}
 
 -- the program that it runs
-abbrev pub program_of : Afresh → Program
-program_of a = a.program
+abbrev pub evaluated_program : Afresh → Program
+evaluated_program a = a.program
 
 -- what its instant hands on
 abbrev pub state_of : Afresh → State
@@ -21,7 +21,7 @@ shown_of a = a.shown
 
 -- it stands behind an instant of a program, in which nothing errs
 pub record Leaves (a : Afresh) (p : Program) (n : Instant) : Type 0 where
-  pub program : program_of a ≡ p
+  pub program : evaluated_program a ≡ p
   pub state : state_of a ≡ handed_on n
   pub shown : map (λ v. Ok v) (shown_of a) ≡ n.evaluated.shown
   pub clean : n.evaluated.first ≡ None

@@ -1,11 +1,12 @@
 //! The items of a program's body, one after the other.
-ghost use Rattle.std.specs.Prelude.{◌≡◌, ◌≤◌, ◌+◌, ℕ, List, [], ◌∷◌, ◌++◌, IfOk};
+ghost use Rattle.std.specs.Prelude.{◌≡◌, ◌≤◌, ◌+◌, List, [], ◌∷◌, IfOk};
 ghost use Rattle.fr_core.specs.declared.program.Item.{Item as BodyItem};
 ghost use Rattle.fr_core.specs.WellFormed.{AreNumbered};
-ghost use Rattle.fr_meaning.specs.Evaluation.{eval_to};
-ghost use Rattle.fr_meaning.specs.Afresh.{items as all_items, sources_at, body};
-ghost use Rattle.fr_afresh.specs.Bodies.{item_expr, behind_item, whole, all_good};
-ghost use Rattle.fr_afresh.specs.Tells.{Tells, IsClean};
+ghost use Rattle.fr_meaning.specs.Evaluation.{eval_to, most_levels};
+ghost use Rattle.fr_meaning.specs.Afresh.{items as all_items, sources_at, body, greatest_time};
+ghost use Rattle.fr_meaning.specs.Dependence.{item_expr};
+ghost use Rattle.fr_afresh.specs.Bodies.{behind_item, whole, all_good};
+ghost use Rattle.fr_afresh.specs.Progress.{IsProgressOf, IsClean};
 
 use crate::evaluation::eval;
 use crate::joining::{Around, Done, nothing_around, with_kept};
@@ -69,7 +70,9 @@ fn next_item(
     item: &Item,
     kept: &Kept,
 ) -> Result<Progress, AllocError>
-    ensures { IfOk result (λ p. (is : List BodyItem) → whole (eval_to 2000 world.now) kept.now (number + 1) p is ≡ whole (eval_to 2000 world.now) kept.now number so_far (item.now ∷ is)) }
+    ensures { IfOk result (λ p. (is : List BodyItem) →
+        whole (eval_to most_levels world.now) kept.now (number + 1) p is ≡
+        whole (eval_to most_levels world.now) kept.now number so_far (item.now ∷ is)) }
 {
     let Progress {
         mut env,
@@ -84,7 +87,8 @@ fn next_item(
 
 /// Evaluates all items, over what they kept. It fails only where there is no memory.
 pub fn eval_items(world: &World<'_>, items: &[Item], kept: &Kept) -> Result<Progress, AllocError>
-    ensures { IfOk result (λ p. Tells p (all_items (eval_to 2000 world.now) [] kept.now 0 items.now)) }
+    ensures { IfOk result (λ p. IsProgressOf p
+        (all_items (eval_to most_levels world.now) [] kept.now 0 items.now)) }
 {
     let mut so_far = Progress {
         env: Items::new(world.alloc()),
@@ -121,8 +125,9 @@ pub fn eval_body(
     inputs: &Inputs,
 ) -> Result<Progress, AllocError>
     requires numbered { AreNumbered program.now }
-    requires time { inputs.now.time ≤ 9223372036854775807 }
-    ensures told { IfOk result (λ p. Tells p (body program.now (sources_at program.now values.now inputs.now) kept.now)) }
+    requires time { inputs.now.time ≤ greatest_time }
+    ensures evaluated { IfOk result (λ p. IsProgressOf p
+        (body program.now (sources_at program.now values.now inputs.now) kept.now)) }
     ensures clean { IfOk result (λ p. IsClean p) }
 {
     let sources = source_values(alloc, program, values, inputs)?;

@@ -7,8 +7,8 @@ ghost use Rattle.fr_meaning.specs.Evaluation.{eval_to, leaf, source_seen, parts,
 ghost use Rattle.fr_forms.specs.Lent.{bound};
 ghost use Rattle.fr_forms.specs.Begins.{args_of};
 ghost use Rattle.fr_forms.specs.Rounds.{number_of, rounds_left};
-ghost use Rattle.fr_afresh.specs.Told.{told, told_parts, turns_on};
 ghost use Rattle.fr_afresh.specs.Trees.{tree};
+ghost use Rattle.fr_afresh.specs.Outcomes.{without_cost, parts_without_cost, turns_on};
 
 use crate::joining::{
     Done, Parts, Turns, choice_done, ended, feedback_done, handled, last_done, leaf_of, line_done,
@@ -29,7 +29,7 @@ use std::alloc::AllocError;
 /// A literal. It fails only where there is no memory.
 #[inline(never)]
 fn eval_literal(world: &World<'_>, value: &Value) -> Result<Done, AllocError>
-    ensures { IfOk result (λ d. d ≡ told (leaf (plain value.now))) }
+    ensures { IfOk result (λ d. d ≡ without_cost (leaf (plain value.now))) }
 {
     Ok(leaf_of(world.alloc(), Ok(Now::Plain(value.share()?))))
 }
@@ -37,7 +37,7 @@ fn eval_literal(world: &World<'_>, value: &Value) -> Result<Done, AllocError>
 /// A variable, over the values of those in scope. It fails only where there is no memory.
 #[inline(never)]
 fn eval_variable(world: &World<'_>, env: &[Seen], id: VarId) -> Result<Done, AllocError>
-    ensures { IfOk result (λ d. d ≡ told (leaf (part env.now id.0))) }
+    ensures { IfOk result (λ d. d ≡ without_cost (leaf (part env.now id.0))) }
 {
     Ok(leaf_of(world.alloc(), share_part(env, id.0 as usize)?))
 }
@@ -45,7 +45,8 @@ fn eval_variable(world: &World<'_>, env: &[Seen], id: VarId) -> Result<Done, All
 /// A source. It fails only where there is no memory.
 #[inline(never)]
 fn eval_source(world: &World<'_>, id: SrcId) -> Result<Done, AllocError>
-    ensures { IfOk result (λ d. d ≡ told (leaf (source_seen (slice_get world.now.sources id.0)))) }
+    ensures { IfOk result (λ d. d ≡ without_cost
+        (leaf (source_seen (slice_get world.now.sources id.0)))) }
 {
     Ok(leaf_of(world.alloc(), world.source(id)?))
 }
@@ -60,7 +61,8 @@ pub fn eval(
     expr: &Core,
     kept: Option<&Kept>,
 ) -> Result<Done, AllocError>
-    ensures value { IfOk result (λ d. d ≡ told (eval_to left world.now expr.now env.old (tree kept.entry))) }
+    ensures value { IfOk result (λ d. d ≡
+        without_cost (eval_to left world.now expr.now env.old (tree kept.entry))) }
     ensures env { OnOk result (env.new ≡ env.old) }
 {
     if left == 0 {
@@ -121,7 +123,8 @@ fn eval_parts(
     exprs: &[Core],
     kept: Option<&Kept>,
 ) -> Result<Parts, AllocError>
-    ensures value { IfOk result (λ p. p ≡ told_parts (parts (eval_to left world.now) env.old (tree kept.entry) 0 exprs.now)) }
+    ensures value { IfOk result (λ p. p ≡
+        parts_without_cost (parts (eval_to left world.now) env.old (tree kept.entry) 0 exprs.now)) }
     ensures env { OnOk result (env.new ≡ env.old) }
 {
     let mut so_far = no_parts(world.alloc());
@@ -142,7 +145,8 @@ fn eval_with(
     args: Items<Seen>,
     kept: Option<&Kept>,
 ) -> Result<Done, AllocError>
-    ensures value { IfOk result (λ d. d ≡ told (eval_to left world.now body.now (env.old ++ args) (tree kept.entry))) }
+    ensures value { IfOk result (λ d. d ≡
+        without_cost (eval_to left world.now body.now (env.old ++ args) (tree kept.entry))) }
     ensures env { OnOk result (env.new ≡ env.old) }
 {
     let outer = env.len();
@@ -162,7 +166,9 @@ fn eval_let(
     body: &Core,
     kept: Option<&Kept>,
 ) -> Result<Done, AllocError>
-    ensures value { IfOk result (λ d. d ≡ told (let_done (eval_to left world.now) env.old (tree kept.entry) (length exprs.now) (parts (eval_to left world.now) env.old (tree kept.entry) 0 exprs.now) body.now)) }
+    ensures value { IfOk result (λ d. d ≡
+        without_cost (let_done (eval_to left world.now) env.old (tree kept.entry) (length exprs.now)
+        (parts (eval_to left world.now) env.old (tree kept.entry) 0 exprs.now) body.now)) }
     ensures env { OnOk result (env.new ≡ env.old) }
 {
     let Parts { values, around } = eval_parts(world, left, env, exprs, kept)?;
@@ -182,7 +188,10 @@ fn eval_if(
     b: &Core,
     kept: Option<&Kept>,
 ) -> Result<Done, AllocError>
-    ensures value { IfOk result (λ d. d ≡ told (let t = eval_to left world.now test.now env.old (child (tree kept.entry) 0) in switch_done (eval_to left world.now) env.old (tree kept.entry) t (choose a.now b.now t.value))) }
+    ensures value { IfOk result (λ d. d ≡
+        without_cost (let t = eval_to left world.now test.now env.old (child (tree kept.entry) 0) in
+        switch_done (eval_to left world.now) env.old (tree kept.entry) t
+        (choose a.now b.now t.value))) }
     ensures env { OnOk result (env.new ≡ env.old) }
 {
     let tested = eval(world, left, env, test, kept_part(kept, 0))?;
@@ -208,7 +217,10 @@ fn eval_call(
     args: &[Core],
     kept: Option<&Kept>,
 ) -> Result<Done, AllocError>
-    ensures value { IfOk result (λ d. d ≡ told (call_done (eval_to left world.now) (tree kept.entry) (length args.now) (parts (eval_to left world.now) env.old (tree kept.entry) 0 args.now) (body_for (slice_get world.now.functions function.0) (length args.now)))) }
+    ensures value { IfOk result (λ d. d ≡
+        without_cost (call_done (eval_to left world.now) (tree kept.entry) (length args.now)
+        (parts (eval_to left world.now) env.old (tree kept.entry) 0 args.now)
+        (body_for (slice_get world.now.functions function.0) (length args.now)))) }
     ensures env { OnOk result (env.new ≡ env.old) }
 {
     let Parts { mut values, around } = eval_parts(world, left, env, args, kept)?;
@@ -232,7 +244,9 @@ fn eval_operator(
     exprs: &[Core],
     kept: Option<&Kept>,
 ) -> Result<Done, AllocError>
-    ensures value { IfOk result (λ d. d ≡ told (state_done (eval_to left world.now) env.old (tree kept.entry) (of_operator operator) exprs.now no_call)) }
+    ensures value { IfOk result (λ d. d ≡
+        without_cost (state_done (eval_to left world.now) env.old (tree kept.entry)
+        (of_operator operator) exprs.now no_call)) }
     ensures env { OnOk result (env.new ≡ env.old) }
 {
     let before = form_kept(operator_cell(operator), kept);
@@ -251,7 +265,10 @@ fn eval_handler(
     body: &Core,
     kept: Option<&Kept>,
 ) -> Result<Done, AllocError>
-    ensures value { IfOk result (λ d. d ≡ told (state_done (eval_to left world.now) env.old (tree kept.entry) (of_handler handler) exprs.now (called (eval_to left world.now) env.old (length exprs.now) body.now))) }
+    ensures value { IfOk result (λ d. d ≡
+        without_cost (state_done (eval_to left world.now) env.old (tree kept.entry)
+        (of_handler handler) exprs.now (called (eval_to left world.now) env.old
+        (length exprs.now) body.now))) }
     ensures env { OnOk result (env.new ≡ env.old) }
 {
     let before = form_kept(handler_cell(handler), kept);
@@ -275,7 +292,8 @@ fn eval_called(
     body: &Core,
     args: CallArgs<'_>,
 ) -> Result<Done, AllocError>
-    ensures value { IfOk result (λ d. d ≡ told (body_with (eval_to left world.now) env.old body.now (args_of args.entry))) }
+    ensures value { IfOk result (λ d. d ≡
+        without_cost (body_with (eval_to left world.now) env.old body.now (args_of args.entry))) }
     ensures env { OnOk result (env.new ≡ env.old) }
 {
     let outer = env.len();
@@ -296,7 +314,9 @@ fn eval_loop(
     body: &Core,
     kept: Option<&Kept>,
 ) -> Result<Done, AllocError>
-    ensures value { IfOk result (λ d. d ≡ told (loop_done (eval_to left world.now) env.old looped (length exprs.now) (parts (eval_to left world.now) env.old (tree kept.entry) 0 exprs.now) body.now)) }
+    ensures value { IfOk result (λ d. d ≡
+        without_cost (loop_done (eval_to left world.now) env.old looped (length exprs.now)
+        (parts (eval_to left world.now) env.old (tree kept.entry) 0 exprs.now) body.now)) }
     ensures env { OnOk result (env.new ≡ env.old) }
 {
     let Parts { values, around } = eval_parts(world, left, env, exprs, kept)?;
@@ -320,7 +340,9 @@ fn eval_turns(
     init: Seen,
     rounds: Rounds<'_>,
 ) -> Result<Turns, AllocError>
-    ensures value { IfOk result (λ t. t ≡ turns_on (record { value = init; first = None }) (turns (body_with (eval_to left world.now) env.old body.now) (number_of rounds.entry) init (rounds_left rounds.entry))) }
+    ensures value { IfOk result (λ t. t ≡ turns_on (record { value = init; first = None })
+        (turns (body_with (eval_to left world.now) env.old body.now) (number_of rounds.entry) init
+        (rounds_left rounds.entry))) }
     ensures env { OnOk result (env.new ≡ env.old) }
 {
     let mut so_far = Turns {
@@ -353,7 +375,10 @@ fn eval_turn(
     so_far: Turns,
     item: Option<&Value>,
 ) -> Result<Turns, AllocError>
-    ensures value { IfOk result (λ t. (rest : List Env) → turns_on t (turns (body_with (eval_to left world.now) env.old body.now) (number + 1) t.value rest) ≡ turns_on so_far (turns (body_with (eval_to left world.now) env.old body.now) number so_far.value (bound item.entry ∷ rest))) }
+    ensures value { IfOk result (λ t. (rest : List Env) →
+        let body = body_with (eval_to left world.now) env.old body.now in
+        turns_on t (turns body (number + 1) t.value rest) ≡
+        turns_on so_far (turns body number so_far.value (bound item.entry ∷ rest))) }
     ensures env { OnOk result (env.new ≡ env.old) }
 {
     let Turns { value, first } = so_far;
@@ -374,7 +399,10 @@ fn eval_feedback(
     body: &Core,
     kept: Option<&Kept>,
 ) -> Result<Done, AllocError>
-    ensures value { IfOk result (λ d. d ≡ told (fed_done (eval_to left world.now) env.old (tree kept.entry) (eval_to left world.now init.now env.old (child (behind_cell of_feedback (tree kept.entry)) 0)) body.now)) }
+    ensures value { IfOk result (λ d. d ≡
+        without_cost (fed_done (eval_to left world.now) env.old (tree kept.entry)
+        (eval_to left world.now init.now env.old
+        (child (behind_cell of_feedback (tree kept.entry)) 0)) body.now)) }
     ensures env { OnOk result (env.new ≡ env.old) }
 {
     let before = form_kept(CellKind::KeepsDatum, kept);

@@ -1,14 +1,14 @@
 //! How an expression's evaluation is made of those of its parts. What the recursion calls is kept out of line, so that a level
 //! takes little stack.
-ghost use Rattle.std.specs.Prelude.{◌≡◌, ◌++◌, ◌∷◌, [], IfOk, OnOk, Err, None};
+ghost use Rattle.std.specs.Prelude.{◌≡◌, ◌∷◌, [], IfOk, Err, None};
 ghost use Rattle.std.specs.Option.{option_or};
 ghost use Rattle.fr_meaning.specs.Words.{under, own};
 ghost use Rattle.fr_meaning.specs.States.{handler_end, state_now, of_operator, of_feedback, no_call};
 ghost use Rattle.fr_meaning.specs.Cells.{with_cell};
 ghost use Rattle.fr_meaning.specs.Evaluation.{leaf, deep, refusal_first};
-ghost use Rattle.fr_forms.specs.Lent.{earlier, next_of, line_of};
+ghost use Rattle.fr_forms.specs.Lent.{earlier, next_of, form_line};
 ghost use Rattle.fr_forms.specs.Begins.{args_of};
-ghost use Rattle.fr_afresh.specs.Told.{told, unbegun_around, with_part, joined, erred, ended_as, lined, called_as};
+ghost use Rattle.fr_afresh.specs.Outcomes.{without_cost, unbegun_around, with_part, with_kept, erred, ended_as, lined, called_as};
 
 use fr_core::{Handler, Kept, Key, Operator, Path};
 use fr_forms::{CallArgs, Cell, LentCell, Line, Seen, end_handler, feedback_line, operator_line};
@@ -49,12 +49,12 @@ pub struct Turns {
 }
 
 /// Lets a value go.
-fn release(value: Seen) {
+fn drop_value(value: Seen) {
     let _gone = value;
 }
 
 /// Lets a tree go that nothing reads.
-fn forget(kept: Kept) {
+fn drop_kept(kept: Kept) {
     let _gone = kept;
 }
 
@@ -133,7 +133,7 @@ pub fn with_kept(
     kept: Kept,
     inner: First,
 ) -> Result<Around, AllocError>
-    ensures { IfOk result (λ a. a ≡ joined around number kept inner) }
+    ensures { IfOk result (λ a. a ≡ with_kept around number kept inner) }
 {
     let Around { mut kepts, first } = around;
     kepts.push(kept)?;
@@ -158,17 +158,17 @@ pub fn part_behind(parts: Parts, number: usize, part: Done) -> Result<Parts, All
 /// The parts so far, and behind them what the part of this number leaves beside its value. It fails only where there is
 /// no memory.
 fn behind(around: Around, number: usize, part: Done) -> Result<Around, AllocError>
-    ensures { IfOk result (λ a. a ≡ joined around number part.kept part.first) }
+    ensures { IfOk result (λ a. a ≡ with_kept around number part.kept part.first) }
 {
     let Done { value, kept, first } = part;
-    release(value);
+    drop_value(value);
     with_kept(around, number, kept, first)
 }
 
 /// What a test leaves beside its value. It fails only where there is no memory.
 #[inline(never)]
 pub fn test_behind(alloc: Global, test: Done) -> Result<Around, AllocError>
-    ensures { IfOk result (λ a. a ≡ joined unbegun_around 0 test.kept test.first) }
+    ensures { IfOk result (λ a. a ≡ with_kept unbegun_around 0 test.kept test.first) }
 {
     behind(nothing_around(alloc), 0, test)
 }
@@ -190,7 +190,7 @@ pub fn ended(alloc: Global, value: Seen, around: Around) -> Done
 /// The evaluation of an expression without parts.
 #[inline(never)]
 pub fn leaf_of(alloc: Global, value: Seen) -> Done
-    ensures { result ≡ told (leaf value) }
+    ensures { result ≡ without_cost (leaf value) }
 {
     let first = own_error(alloc, &value);
     Done {
@@ -203,7 +203,7 @@ pub fn leaf_of(alloc: Global, value: Seen) -> Done
 /// The evaluation beyond the last level.
 #[inline(never)]
 pub fn too_deep(alloc: Global) -> Done
-    ensures { result ≡ told deep }
+    ensures { result ≡ without_cost deep }
 {
     leaf_of(alloc, Err(Bad::Deep))
 }
@@ -216,7 +216,8 @@ pub fn last_done(
     number: usize,
     last: Done,
 ) -> Result<Done, AllocError>
-    ensures { IfOk result (λ d. d ≡ ended_as last.value (joined around number last.kept last.first)) }
+    ensures { IfOk result (λ d.
+        d ≡ ended_as last.value (with_kept around number last.kept last.first)) }
 {
     let Done { value, kept, first } = last;
     let around = with_kept(around, number, kept, first)?;
@@ -233,7 +234,8 @@ pub fn choice_done(
     number: usize,
     choice: Done,
 ) -> Result<Done, AllocError>
-    ensures { IfOk result (λ d. d ≡ ended_as choice.value (joined around number (Kept.Switch key choice.kept) choice.first)) }
+    ensures { IfOk result (λ d. d ≡ ended_as choice.value
+        (with_kept around number (Kept.Switch key choice.kept) choice.first)) }
 {
     let Done { value, kept, first } = choice;
     let kept = Kept::Switch(key, Boxed::new(alloc, kept)?);
@@ -243,7 +245,7 @@ pub fn choice_done(
 /// A switch whose test can't be told. It fails only where there is no memory.
 #[inline(never)]
 pub fn untested(alloc: Global, around: Around, bad: Bad) -> Result<Done, AllocError>
-    ensures { IfOk result (λ d. d ≡ ended_as (Err bad) (joined around 1 Kept.Nothing None)) }
+    ensures { IfOk result (λ d. d ≡ ended_as (Err bad) (with_kept around 1 Kept.Nothing None)) }
 {
     let around = with_kept(around, 1, Kept::Nothing, None)?;
     Ok(ended(alloc, Err(bad), around))
@@ -252,14 +254,15 @@ pub fn untested(alloc: Global, around: Around, bad: Bad) -> Result<Done, AllocEr
 /// The turns so far, of which one more was made, which has this number. It fails only where there is no memory.
 #[inline(never)]
 pub fn turned(number: usize, first: First, turn: Done) -> Result<Turns, AllocError>
-    ensures { IfOk result (λ t. t ≡ record { value = turn.value; first = option_or first (under number turn.first) }) }
+    ensures { IfOk result (λ t.
+        t ≡ record { value = turn.value; first = option_or first (under number turn.first) }) }
 {
     let Done {
         value,
         kept,
         first: inner,
     } = turn;
-    forget(kept);
+    drop_kept(kept);
     let first = first_of(first, number, inner)?;
     Ok(Turns { value, first })
 }
@@ -307,7 +310,7 @@ fn around_cell(alloc: Global, next: Option<Cell>, kepts: Items<Kept>) -> Result<
 /// A form's line behind its parts. It fails only where there is no memory.
 #[inline(never)]
 pub fn line_done(alloc: Global, around: Around, line: Line) -> Result<Done, AllocError>
-    ensures { IfOk result (λ d. d ≡ lined around (line_of line)) }
+    ensures { IfOk result (λ d. d ≡ lined around (form_line line)) }
 {
     let Around { kepts, first } = around;
     let Line {
@@ -332,7 +335,8 @@ pub fn operator_done(
     cell: Option<LentCell<'_>>,
     parts: Parts,
 ) -> Result<Done, AllocError>
-    ensures { IfOk result (λ d. d ≡ lined parts.around (state_now (of_operator operator) (earlier cell.entry) parts.values no_call)) }
+    ensures { IfOk result (λ d. d ≡ lined parts.around
+        (state_now (of_operator operator) (earlier cell.entry) parts.values no_call)) }
 {
     let Parts { values, around } = parts;
     let line = operator_line(alloc, operator, cell, values.as_slice())?;
@@ -341,7 +345,8 @@ pub fn operator_done(
 
 /// What INIT and BODY of a `feedback` leave beside their values. It fails only where there is no memory.
 fn both_behind(alloc: Global, init: Done, body: Done) -> Result<Around, AllocError>
-    ensures { IfOk result (λ a. a ≡ joined (joined unbegun_around 0 init.kept init.first) 1 body.kept body.first) }
+    ensures { IfOk result (λ a. a ≡
+        with_kept (with_kept unbegun_around 0 init.kept init.first) 1 body.kept body.first) }
 {
     let around = behind(nothing_around(alloc), 0, init)?;
     behind(around, 1, body)
@@ -355,7 +360,9 @@ pub fn feedback_done(
     init: Done,
     body: Done,
 ) -> Result<Done, AllocError>
-    ensures { IfOk result (λ d. d ≡ lined (joined (joined unbegun_around 0 init.kept init.first) 1 body.kept body.first) (state_now of_feedback (earlier cell.entry) (init.value ∷ body.value ∷ []) no_call)) }
+    ensures { IfOk result (λ d. d ≡ lined
+        (with_kept (with_kept unbegun_around 0 init.kept init.first) 1 body.kept body.first)
+        (state_now of_feedback (earlier cell.entry) (init.value ∷ body.value ∷ []) no_call)) }
 {
     let line = feedback_line(cell, &init.value, &body.value)?;
     let around = both_behind(alloc, init, body)?;
@@ -373,12 +380,13 @@ pub fn handled(
     args: CallArgs<'_>,
     body: Done,
 ) -> Result<Done, AllocError>
-    ensures { IfOk result (λ d. d ≡ lined around (handler_end handler (args_of args.entry) (called_as number body))) }
+    ensures { IfOk result (λ d. d ≡ lined around
+        (handler_end handler (args_of args.entry) (called_as number body))) }
 {
     let Done { value, kept, first } = body;
-    forget(kept);
+    drop_kept(kept);
     let around = behind_error(around, number, first)?;
     let line = end_handler(handler, args, &value)?;
-    release(value);
+    drop_value(value);
     line_done(alloc, around, line)
 }

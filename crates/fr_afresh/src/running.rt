@@ -1,8 +1,9 @@
+//! A program that is evaluated afresh, from one instant to the next.
 ghost use Rattle.std.specs.Prelude.{◌≡◌, ◌<◌, ◌≤◌, length, slice_get, IfOk, IfErr, Some};
 ghost use Rattle.fr_core.specs.WellFormed.{IsWellFormed};
-ghost use Rattle.fr_meaning.specs.Afresh.{Instant, beginning, first_instant, instant as instant_after};
-ghost use Rattle.fr_afresh.specs.Stands.{program_of, state_of, shown_of, Leaves, ErrsBy};
-ghost use Rattle.fr_afresh.specs.Tells.{Tells, IsClean};
+ghost use Rattle.fr_meaning.specs.Afresh.{Instant, beginning, first_instant, instant as instant_after, greatest_time};
+ghost use Rattle.fr_afresh.specs.Stands.{evaluated_program, state_of, shown_of, Leaves, ErrsBy};
+ghost use Rattle.fr_afresh.specs.Progress.{IsProgressOf, IsClean};
 
 use crate::bodies::{Progress, eval_body, good_values};
 use crate::joining::Around;
@@ -55,11 +56,11 @@ pub struct Afresh {
     shown: Items<Now>,
 }
 
-fn release(shown: Items<Now>) {
+fn drop_shown(shown: Items<Now>) {
     let _gone = shown;
 }
 
-fn release_values(values: Items<Seen>) {
+fn drop_values(values: Items<Seen>) {
     let _gone = values;
 }
 
@@ -72,11 +73,13 @@ fn stand_behind(
     time: u64,
 ) -> Result<Afresh, AfreshStop>
     requires clean { IsClean done }
-    ensures ok { IfOk result (λ a. (n : Instant) → n.values ≡ values → Tells done n.evaluated → Leaves a program n) }
-    ensures err { IfErr result (λ stop. (n : Instant) → Tells done n.evaluated → ErrsBy stop time n) }
+    ensures ok { IfOk result (λ a. (n : Instant) → n.values ≡ values →
+        IsProgressOf done n.evaluated → Leaves a program n) }
+    ensures err { IfErr result (λ stop. (n : Instant) → IsProgressOf done n.evaluated →
+        ErrsBy stop time n) }
 {
     let Progress { env, shown, around } = done;
-    release_values(env);
+    drop_values(env);
     let Around { kepts, first } = around;
     match first {
         Some((path, bad)) => Err(AfreshStop::First(FirstBad { time, path, bad })),
@@ -100,8 +103,10 @@ impl Afresh {
     pub fn start(alloc: Global, program: Program, first: &Inputs) -> Result<Afresh, AfreshStop>
         requires well_formed { IsWellFormed program }
         requires first { first.now ≡ first_instant }
-        ensures ok { IfOk result (λ a. Leaves a program (instant_after program (beginning program) first_instant)) }
-        ensures err { IfErr result (λ stop. ErrsBy stop 0 (instant_after program (beginning program) first_instant)) }
+        ensures ok { IfOk result (λ a. Leaves a program
+            (instant_after program (beginning program) first_instant)) }
+        ensures err { IfErr result (λ stop.
+            ErrsBy stop 0 (instant_after program (beginning program) first_instant)) }
     {
         let values = first_values(alloc, program.inputs.as_slice())?;
         let before = Afresh {
@@ -118,10 +123,12 @@ impl Afresh {
     /// integer of the language. It fails with `First` only where that instant errs, and
     /// is never Ok there; it fails with `Memory` where there is no memory. After an error nothing is left to go on with.
     pub fn instant(self, inputs: &Inputs) -> Result<Afresh, AfreshStop>
-        requires well_formed { IsWellFormed (program_of self) }
-        requires time { inputs.now.time ≤ 9223372036854775807 }
-        ensures ok { IfOk result (λ a. Leaves a (program_of self) (instant_after (program_of self) (state_of self) inputs.now)) }
-        ensures err { IfErr result (λ stop. ErrsBy stop inputs.now.time (instant_after (program_of self) (state_of self) inputs.now)) }
+        requires well_formed { IsWellFormed (evaluated_program self) }
+        requires time { inputs.now.time ≤ greatest_time }
+        ensures ok { IfOk result (λ a. Leaves a (evaluated_program self)
+            (instant_after (evaluated_program self) (state_of self) inputs.now)) }
+        ensures err { IfErr result (λ stop. ErrsBy stop inputs.now.time
+            (instant_after (evaluated_program self) (state_of self) inputs.now)) }
     {
         let Afresh {
             alloc,
@@ -130,7 +137,7 @@ impl Afresh {
             kept,
             shown,
         } = self;
-        release(shown);
+        drop_shown(shown);
         let values = latest_values(
             alloc,
             program.inputs.as_slice(),
@@ -162,7 +169,7 @@ impl Afresh {
 
     /// The program that it runs.
     pub fn program(&self) -> &Program
-        ensures { result.now ≡ program_of self.now }
+        ensures { result.now ≡ evaluated_program self.now }
     {
         &self.program
     }

@@ -1,9 +1,8 @@
 //! The values of inputs and sources at an instant.
 ghost use Rattle.std.specs.Prelude.{◌≡◌, ◌≤◌, ◌<◌, ◌+◌, ◌∷◌, ℕ, suc, true, pos, map, drop, unwrap_or, IfOk, length, slice_get, None};
-ghost use Rattle.std.specs.Option.{option_copied};
 ghost use Rattle.fr_core.specs.Sets.{value_in};
-ghost use Rattle.fr_core.specs.WellFormed.{last_source, AreNumbered};
-ghost use Rattle.fr_meaning.specs.Afresh.{latest, source_now, sources_at};
+ghost use Rattle.fr_core.specs.WellFormed.{last_source, AreNumbered, most_entries};
+ghost use Rattle.fr_meaning.specs.Afresh.{latest, source_now, sources_at, greatest_time};
 ghost use Rattle.fr_afresh.specs.Walks.{AreBehind, begins_with, left_from};
 ghost use Rattle.fr_value.specs.declared.value.Value.TheVariants as value;
 
@@ -61,7 +60,8 @@ fn event_now(sets: &Sets, source: SrcId) -> Result<Now, AllocError>
 
 /// What an input has: the value at an index. Where there is none, it is as an event source.
 fn input_now(values: &[Value], at: usize, sets: &Sets, source: SrcId) -> Result<Now, AllocError>
-    ensures { IfOk result (λ n. n ≡ source_now (slice_get values.now at) (value_in source sets.now)) }
+    ensures { IfOk result (λ n. n ≡ source_now (slice_get values.now at)
+        (value_in source sets.now)) }
 {
     match values.get(at) {
         Some(value) => Ok(Now::Plain(value.share()?)),
@@ -74,7 +74,7 @@ const MOST_SOURCES: usize = 4_294_967_294;
 /// The number of the last source. It fails where that isn't below 4,294,967,295: a program of so many sources has no room.
 fn last_source_of(program: &Program) -> Result<u32, AllocError>
     ensures ok { IfOk result (λ n. n ≡ last_source program.now) }
-    ensures few { IfOk result (λ n. n ≤ 4294967294) }
+    ensures few { IfOk result (λ n. n < most_entries) }
 {
     let inputs = program.inputs.len();
     let events = program.events.len();
@@ -86,7 +86,7 @@ fn last_source_of(program: &Program) -> Result<u32, AllocError>
 
 /// The time of an instant, as `now` has it.
 fn time_value(time: u64) -> Value
-    requires { time ≤ 9223372036854775807 }
+    requires { time ≤ greatest_time }
     ensures { result ≡ value.Int (pos time) }
 {
     Value::Int(time as i64)
@@ -119,10 +119,12 @@ fn walk_on(
     next: usize,
     before: u32,
 ) -> Result<Step, AllocError>
-    requires few { before < 4294967295 }
+    requires few { before < most_entries }
     requires behind { AreBehind before (drop next inputs.now) }
     ensures behind { IfOk result (λ s. AreBehind (before + 1) (drop s.next inputs.now)) }
-    ensures left { IfOk result (λ s. (more : ℕ) → s.now ∷ left_from inputs.now values.now sets.now s.next (before + 1 + 1) more ≡ left_from inputs.now values.now sets.now next (before + 1) (suc more)) }
+    ensures left { IfOk result (λ s. (more : ℕ) → s.now ∷
+        left_from inputs.now values.now sets.now s.next (before + 1 + 1) more ≡
+        left_from inputs.now values.now sets.now next (before + 1) (suc more)) }
 {
     let source = before + 1;
     if is_source(inputs, next, source) {
@@ -146,7 +148,7 @@ pub fn source_values(
     inputs: &Inputs,
 ) -> Result<Items<Now>, AllocError>
     requires numbered { AreNumbered program.now }
-    requires time { inputs.now.time ≤ 9223372036854775807 }
+    requires time { inputs.now.time ≤ greatest_time }
     ensures { IfOk result (λ ns. ns ≡ sources_at program.now values.now inputs.now) }
 {
     let last = last_source_of(program)?;

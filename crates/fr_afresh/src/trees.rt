@@ -1,7 +1,7 @@
 //! What forms read from kept trees.
 ghost use Rattle.std.specs.Prelude.{◌≡◌};
 ghost use Rattle.fr_core.specs.declared.kept.Kept.{out-Kept};
-ghost use Rattle.fr_meaning.specs.Cells.{child, keeps_datum, keeps_payload, cell_in, behind, same_key, under_key};
+ghost use Rattle.fr_meaning.specs.Cells.{child, cell_in, behind, same_key, under_key};
 ghost use Rattle.fr_forms.specs.Lent.{earlier, kind_of};
 ghost use Rattle.fr_afresh.specs.Trees.{shape_of, tree};
 
@@ -60,53 +60,25 @@ pub struct FormKept<'a> {
     pub parts: Option<&'a Kept>,
 }
 
-#[tactic(auto, unfolding(fr_meaning::specs::Cells::datum_cell, fr_meaning::specs::Cells::behind_datum))]
-fn datum_kept(kept: Option<&Kept>) -> FormKept<'_>
-    ensures cell { earlier result.cell ≡ cell_in keeps_datum (tree kept.entry) }
-    ensures parts { tree result.parts ≡ behind keeps_datum (tree kept.entry) }
-{
-    match open_tree(kept) {
-        Opened::Datum(value, inner) => FormKept {
-            cell: Some(LentCell::Datum(value)),
-            parts: Some(inner),
-        },
-        _ => FormKept {
-            cell: None,
-            parts: None,
-        },
-    }
-}
-
-#[tactic(auto, unfolding(fr_meaning::specs::Cells::payload_cell, fr_meaning::specs::Cells::behind_payload))]
-fn payload_kept(kept: Option<&Kept>) -> FormKept<'_>
-    ensures cell { earlier result.cell ≡ cell_in keeps_payload (tree kept.entry) }
-    ensures parts { tree result.parts ≡ behind keeps_payload (tree kept.entry) }
-{
-    match open_tree(kept) {
-        Opened::Payload(payload, inner) => FormKept {
-            cell: Some(LentCell::Payload(payload)),
-            parts: Some(inner),
-        },
-        _ => FormKept {
-            cell: None,
-            parts: None,
-        },
-    }
-}
-
 /// What a form with a cell of this kind reads.
+#[tactic(auto, unfolding(fr_meaning::specs::Cells::datum_cell, fr_meaning::specs::Cells::behind_datum, fr_meaning::specs::Cells::payload_cell, fr_meaning::specs::Cells::behind_payload))]
 pub fn form_kept(kind: CellKind, kept: Option<&Kept>) -> FormKept<'_>
     ensures cell { earlier result.cell ≡ cell_in (kind_of kind) (tree kept.entry) }
     ensures parts { tree result.parts ≡ behind (kind_of kind) (tree kept.entry) }
 {
-    match kind {
-        CellKind::KeepsNone => FormKept {
-            cell: None,
-            parts: kept,
-        },
-        CellKind::KeepsDatum => datum_kept(kept),
-        CellKind::KeepsPayload => payload_kept(kept),
-    }
+    let (cell, parts) = match (kind, open_tree(kept)) {
+        (CellKind::KeepsNone, _) => (None, kept),
+        (CellKind::KeepsDatum, Opened::Datum(value, inner)) => (
+            Some(LentCell::Datum(value)),
+            Some(inner),
+        ),
+        (CellKind::KeepsPayload, Opened::Payload(payload, inner)) => (
+            Some(LentCell::Payload(payload)),
+            Some(inner),
+        ),
+        _ => (None, None),
+    };
+    FormKept { cell, parts }
 }
 
 /// What the choice of a switch kept, where the switch chose by the same key before.

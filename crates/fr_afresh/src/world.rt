@@ -1,3 +1,4 @@
+//! What an evaluation is over: the functions of a program and the values of its sources.
 ghost use Rattle.std.specs.Prelude.{◌≡◌, slice_get, IfOk};
 ghost use Rattle.std.specs.Option.{option_copied};
 ghost use Rattle.fr_meaning.specs.Evaluation.{world_of, source_seen, body_for};

@@ -1,5 +1,5 @@
 -- A command on its program's file, and a run on its script's.
-use Rattle.std.proofs.Common.{◌≡◌, ◌≢◌, ◌∙◌, ◌⊎◌, inl, inr, max, true, false, ℕ, List, [], ◌∷◌, length, take, ap, sym, subst, refl, arith, rules, None, Some, Ok, Err, IfSome, OnOk, IfErr, IsErrOf, Option, Result, codes}
+use Rattle.std.proofs.Common.{◌≡◌, ◌≢◌, ◌∙◌, ◌⊎◌, inl, inr, max, true, false, ℕ, List, [], ◌∷◌, length, take, ap, sym, subst, refl, arith, rules, None, Some, Ok, Err, IfSome, OnOk, IfErr, Option, Result, codes}
 use Rattle.std.specs.Io.KnownBytes.{Appends}
 use Rattle.std.specs.Str.{bytes_eq}
 use Rattle.std.proofs.lemmas.Slice.Eq.{bytes_eq-Decides}
@@ -10,7 +10,7 @@ use Rattle.fr_io.proofs.Counts as counting
 use Rattle.fr_io.proofs.Shelves.{any_rose, reads_then, reads_among, reads_if}
 use Rattle.fr_core.specs.declared.program.Program.{Program as Core}
 use Rattle.fr_show.specs.declared.stop.Stop.{Stop}
-use Rattle.fr_show.specs.declared.stop.Stop.TheVariants.{Script, Evaluation, Program, Read, Write, Memory}
+use Rattle.fr_show.specs.declared.stop.Stop.TheVariants.{Program, Read, Write, Memory}
 use Rattle.fr_show.specs.declared.acceptance.AcceptStop.{AcceptStop}
 use Rattle.fr_show.specs.declared.acceptance.AcceptStop.TheVariants.{Refused, Memory as NoMemory}
 use Rattle.fr_show.specs.Accepted.{IsProgram, Verdict, OnJudged, OnEachJudged}
@@ -21,7 +21,7 @@ use Rattle.fr_show.proofs.Courses.{appends_nothing, nothing_whole}
 use Rattle.fr_show.proofs.Judged.{on_each, on_read, judged_of_front, says_of_front, read_accepted}
 use Rattle.fr_cli.specs.declared.telling.Failure.{Failure}
 use Rattle.fr_cli.specs.declared.telling.Failure.TheVariants.{Usage, Stopped}
-use Rattle.fr_cli.specs.Command.{Command, over_script, check, checked, AllRead, IsAmong}
+use Rattle.fr_cli.specs.Command.{Command, script_command, check, checked, AllRead, IsAmong}
 use Rattle.fr_cli.specs.Lines.{status_of}
 use Rattle.fr_cli.specs.Obeyed.{IsUnread, Obeys, failed}
 
@@ -128,7 +128,7 @@ run_answers other = search rules
 pub ran : {T : Type 0} (word program script text : List ℕ) (answer : Result T Stop) (h0 h1 h2 : Holds) (r0 r1 r2 : Reached) (c0 c1 c2 : Faults) (x y : Option (List ℕ)) (f g : ℕ)
     → IfSome (h0 program) (λ file. text ≡ take 1048577 file) → ReachesFront (r0 program) (r1 program) (length text)
     → Reads (program ∷ []) ⊥ h0 h1 r0 r1 c0 c1 → Session answer text script h1 h2 r1 r2 c1 c2 x y f g
-    → Obeys (Some (over_script word program script)) (failed answer) h0 h2 r0 r2 c0 c2 x y f g
+    → Obeys (Some (script_command word program script)) (failed answer) h0 h2 r0 r2 c0 c2 x y f g
 ran word program script text (Ok t) h0 h1 h2 r0 r1 r2 c0 c1 c2 x y f g bytes reached s k =
     let isp = accepted (h1 script) text x y k.ok in
     record {

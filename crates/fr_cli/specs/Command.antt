@@ -24,8 +24,8 @@ pub record Command : Type 0 where
   pub quiet : Bool
 
 -- a command that runs a program over a script, with the whole program evaluated afresh at every instant
-abbrev pub over_script : List ℕ → List ℕ → List ℕ → Command
-over_script word program script = record {
+abbrev pub script_command : List ℕ → List ℕ → List ℕ → Command
+script_command word program script = record {
   word = word;
   program = program;
   behind = script ∷ [];
@@ -35,10 +35,10 @@ over_script word program script = record {
 }
 
 abbrev pub run : List ℕ → List ℕ → Command
-run program script = over_script (codes "run") program script
+run program script = script_command (codes "run") program script
 
 abbrev pub afresh : List ℕ → List ℕ → Command
-afresh program script = over_script (codes "afresh") program script
+afresh program script = script_command (codes "afresh") program script
 
 -- the course of `check`: an accepted program is told, and a refusal stops it
 abbrev pub checked : Verdict → Option Course

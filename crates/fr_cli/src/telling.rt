@@ -1,3 +1,4 @@
+//! How a failure is told: its status and its line.
 ghost use Rattle.std.specs.Prelude.{◌≡◌, ◌++◌, OnOk, OnErr, IsErr, decimal};
 ghost use Rattle.std.specs.Io.KnownBytes.{Appends};
 ghost use Rattle.fr_io.specs.Faults.{Counts};
@@ -45,8 +46,10 @@ pub fn tell<E: Sink>(failure: &Failure, err: &mut E)
 /// Writes the line of a failure.
 #[tactic(auto, unfolding(crate::specs::Lines::failure_line))]
 fn write_line<E: Sink>(failure: &Failure, err: &mut E) -> Result<(), Failed>
-    ensures ok { OnOk result (Appends (E.written err.old) (E.written err.new) (failure_line failure.now)) }
-    ensures err { OnErr result (AppendsSome (E.written err.old) (E.written err.new) (failure_line failure.now)) }
+    ensures ok { OnOk result (Appends (E.written err.old) (E.written err.new)
+        (failure_line failure.now)) }
+    ensures err { OnErr result (AppendsSome (E.written err.old) (E.written err.new)
+        (failure_line failure.now)) }
     ensures counts { Counts (IsErr result) (E.faults err.old) (E.faults err.new) }
 {
     match failure {
@@ -58,8 +61,10 @@ fn write_line<E: Sink>(failure: &Failure, err: &mut E) -> Result<(), Failed>
 /// Writes the line of a stop.
 #[tactic(auto, unfolding(crate::specs::Lines::failure_line))]
 fn write_stop<E: Sink>(stop: &Stop, err: &mut E) -> Result<(), Failed>
-    ensures ok { OnOk result (Appends (E.written err.old) (E.written err.new) (failure_line (Failure.Stopped stop.now))) }
-    ensures err { OnErr result (AppendsSome (E.written err.old) (E.written err.new) (failure_line (Failure.Stopped stop.now))) }
+    ensures ok { OnOk result (Appends (E.written err.old) (E.written err.new)
+        (failure_line (Failure.Stopped stop.now))) }
+    ensures err { OnErr result (AppendsSome (E.written err.old) (E.written err.new)
+        (failure_line (Failure.Stopped stop.now))) }
     ensures counts { Counts (IsErr result) (E.faults err.old) (E.faults err.new) }
 {
     match stop {
@@ -88,8 +93,10 @@ fn write_place<E: Sink>(
     number: u64,
     behind: &[u8],
 ) -> Result<(), Failed>
-    ensures ok { OnOk result (Appends (E.written err.old) (E.written err.new) (before.now ++ decimal number ++ behind.now)) }
-    ensures err { OnErr result (AppendsSome (E.written err.old) (E.written err.new) (before.now ++ decimal number ++ behind.now)) }
+    ensures ok { OnOk result (Appends (E.written err.old) (E.written err.new)
+        (before.now ++ decimal number ++ behind.now)) }
+    ensures err { OnErr result (AppendsSome (E.written err.old) (E.written err.new)
+        (before.now ++ decimal number ++ behind.now)) }
     ensures counts { Counts (IsErr result) (E.faults err.old) (E.faults err.new) }
 {
     let mut buffer = Buffer::new();

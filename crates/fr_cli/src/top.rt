@@ -1,4 +1,5 @@
-ghost use Rattle.std.specs.Prelude.{◌≡◌, ◌≢◌, ◌≤◌, ◌↔◌, ◌⊎◌, ◌∷◌, ◌+◌, ℕ, List, [], length, None, Some, IfOk, IfErr, IfSome};
+//! The top call, which does what the words ask for over a shelf and two sinks.
+ghost use Rattle.std.specs.Prelude.{◌≡◌, ◌≢◌, ◌≤◌, ◌↔◌, ◌⊎◌, ◌∷◌, ℕ, List, [], length, None, Some, IfOk, IfErr, IfSome};
 ghost use Rattle.std.specs.Io.KnownBytes.{Appends};
 ghost use Rattle.fr_io.specs.Faults.{Rose, AnyRose, FailsAs, NoneFalls, NoneMoves};
 ghost use Rattle.fr_io.specs.Files.{AppendsSome, ReachesFront};
@@ -6,7 +7,7 @@ ghost use Rattle.fr_io.specs.Shelves.{OthersUnread, OthersStay, Reads};
 ghost use Rattle.fr_show.specs.Accepted.{program_front};
 ghost use Rattle.fr_show.specs.Course.{all_bytes};
 ghost use Rattle.fr_show.specs.Ends.{EndsThere, RefusesProgram, RefusesScript, Errs};
-ghost use Rattle.fr_cli.specs.Command.{asked, over_script, check as check_of, files_in};
+ghost use Rattle.fr_cli.specs.Command.{asked, script_command, check as check_of, files_in};
 ghost use Rattle.fr_cli.specs.Command.{OnCommand, WritesWhole, AllRead, FailsToRead, Answers, IsQuiet};
 ghost use Rattle.fr_cli.specs.Lines.{CallsFor, StandsFor};
 ghost use Rattle.fr_cli.specs.Obeyed.{IsUnread, Obeys};
@@ -14,7 +15,7 @@ ghost use Rattle.fr_cli.specs.Requests.{command_in};
 
 use crate::command::{Request, request_of};
 use crate::telling::{Failure, status, tell};
-use fr_io::{ReadStop, Shelf, Sink, read_up_to, write_all};
+use fr_io::{FileStop, Shelf, Sink, read_up_to, write_all};
 use fr_run::{WholeEvaluator, run_session};
 use fr_show::{PROGRAM_LIMIT, Stop, accept};
 use std::alloc::Global;
@@ -32,8 +33,8 @@ fn read_program<S: Shelf>(alloc: Global, program: &str, shelf: &mut S) -> Result
 {
     match read_up_to(alloc, shelf, program, PROGRAM_LIMIT) {
         Ok(text) => Ok(text),
-        Err(ReadStop::Memory(e)) => Err(Stop::Memory(e)),
-        Err(ReadStop::Failed) => Err(Stop::Read),
+        Err(FileStop::Memory(e)) => Err(Stop::Memory(e)),
+        Err(FileStop::Failed) => Err(Stop::Read),
     }
 }
 
@@ -45,7 +46,7 @@ fn run<S: Shelf, O: Sink>(
     shelf: &mut S,
     out: &mut O,
 ) -> Result<(), Failure>
-    ensures { (word : List ℕ) → Obeys (Some (over_script word program.now script.now)) result
+    ensures { (word : List ℕ) → Obeys (Some (script_command word program.now script.now)) result
         (S.holds shelf.old) (S.holds shelf.new)
         (S.reached shelf.old) (S.reached shelf.new) (S.faults shelf.old) (S.faults shelf.new)
         (O.written out.old) (O.written out.new) (O.faults out.old) (O.faults out.new) }
@@ -159,7 +160,8 @@ pub fn frtime<S: Shelf, O: Sink, E: Sink>(
     ensures silent { result ≡ 0 → err.new ≡ err.old }
     // Where no file that the words name and not `out` fails, the status is the one that the words and the files call for,
     // or there was no memory.
-    ensures complete { (AnyRose (files_in (asked words.now)) (S.faults shelf.old) (S.faults shelf.new) → ⊥) →
+    ensures complete { (AnyRose (files_in (asked words.now))
+        (S.faults shelf.old) (S.faults shelf.new) → ⊥) →
         (Rose (O.faults out.old) (O.faults out.new) → ⊥) →
         CallsFor (asked words.now) (S.holds shelf.old) result ⊎ (result ≡ 8) }
 

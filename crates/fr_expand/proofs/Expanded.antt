@@ -16,7 +16,7 @@ use Rattle.fr_expand.specs.declared.expansion.ExpandStop.{ExpandStop}
 use Rattle.fr_expand.specs.declared.expansion.ExpandStop.TheVariants.{Memory, Refused}
 use Rattle.fr_expand.specs.Passes.{nothing_yet, refusal_from}
 use Rattle.fr_expand.specs.Shaped.{shaped}
-use Rattle.fr_expand.specs.Stops.{Decides, Tells}
+use Rattle.fr_expand.specs.Stops.{Decides, IsStopOf}
 use Rattle.fr_expand.specs.Expansion.{IsExpansion, IsExpansionAfter, IsSecondPass, IsFirstUnfit, AreFit, forms_of, cores_from, cores_of, program_in, program_of}
 use Rattle.fr_expand.proofs.Fits.{fit_program}
 use Rattle.fr_expand.proofs.Sizes.{shaped_small}
@@ -44,7 +44,7 @@ program_shaped ds e = ap (program_in (globals_in ds)) (sym e)
 
 -- what the second pass finds decides
 second_decides : (ds : List Datum) (r : Result Program ExpandStop) → None ≡ refusal_from (globals_in ds) 1 nothing_yet (map Some (shaped ds)) → length ds ≤ length (shaped ds)
-    → Decides (globals_in ds) (shaped ds) r → IfOk r (λ p. IsExpansion ds (Ok p)) × IfErr r (Tells ds)
+    → Decides (globals_in ds) (shaped ds) r → IfOk r (λ p. IsExpansion ds (Ok p)) × IfErr r (IsStopOf ds)
 second_decides ds (Ok p) h all d =
     let same = all_shaped ds all in
     let fit : IsFit p = subst IsFit (sym d.0) (fit_program (globals_in ds) (shaped ds) (subst (λ q. AreFit q (cores_from (globals_in ds) [] (shaped ds))) d.0 d.1)) in
@@ -72,7 +72,7 @@ module _ (ds : List Datum) (globals : List Global) (fs : List Form) (g : globals
       (form_refused ds none (of_data (λ names forms. length forms < length ds) ds globals fs g f few))
 
   pub finds_second : (x : Option Refusal) (r : Result Program ExpandStop) → x ≡ None → x ≡ refusal_from globals 1 nothing_yet (map Some fs) → length ds ≤ length fs → Decides globals fs r
-      → IfOk r (λ p. IsExpansion ds (Ok p)) × IfErr r (Tells ds)
+      → IfOk r (λ p. IsExpansion ds (Ok p)) × IfErr r (IsStopOf ds)
   finds_second x r is found all decides =
       let none = of_data (λ names forms. None ≡ refusal_from names 1 nothing_yet (map Some forms)) ds globals fs g f (sym is ∙ found) in
       second_decides ds r none (of_data (λ names forms. length ds ≤ length forms) ds globals fs g f all) (of_data (λ names forms. Decides names forms r) ds globals fs g f decides)

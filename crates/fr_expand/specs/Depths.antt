@@ -5,6 +5,14 @@ use Rattle.fr_syntax.specs.declared.expr.Expr.{Expr, fold-Expr}
 use Rattle.fr_syntax.specs.declared.expr.Expr.TheOpen.{Expr-F}
 use Rattle.fr_expand.specs.Shapes.{Shape, literal, reference, call, choice, chain, clauses, all_of, any_of, operation, binder, feedback, shape}
 
+-- the deepest nesting of an expression in a program
+abbrev pub deepest_nesting : ℕ
+deepest_nesting = 500
+
+-- where a count of levels ends: one above the deepest nesting
+abbrev pub count_end : ℕ
+count_end = deepest_nesting + 1
+
 -- each stands in an expression around what is behind it
 abbrev pub around : List ℕ → ℕ → ℕ
 around [] last = last

@@ -58,6 +58,10 @@ abbrev pub items_from : List Global → List (List ℕ) → List Form → List I
 items_from globals values [] = []
 items_from globals values (f ∷ fs) = option_to_list (item_of globals values f) ++ items_from globals (values_behind values f) fs
 
+-- a program has fewer expressions than this
+abbrev pub expression_limit : ℕ
+expression_limit = 268435456
+
 -- the program of forms that have a shape
 abbrev pub program_in : List Global → List Form → Program
 program_in globals fs = record { inputs = inputs_from 1 fs; events = events_from 1 fs; functions = functions_in globals fs; body = items_from globals [] fs }

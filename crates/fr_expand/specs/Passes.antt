@@ -15,6 +15,7 @@ use Rattle.fr_expand.specs.declared.refusal.Kind.{Kind}
 use Rattle.fr_expand.specs.declared.refusal.Kind.TheVariants as kind
 use Rattle.fr_expand.specs.declared.refusal.Refusal.{Refusal}
 use Rattle.fr_expand.specs.declared.faults.Faults.{Faults}
+use Rattle.fr_expand.specs.Depths.{deepest_nesting}
 use Rattle.fr_expand.specs.Faults.{with, is_keyword, is_among, binding_faults, named, faults}
 use Rattle.fr_expand.specs.Items.{name_of, values_behind, form_core}
 
@@ -58,7 +59,7 @@ fault_kind f = if f.name then Some kind.Name else if f.unbound then Some kind.Un
 
 -- the kind for which a well-shaped form is refused
 abbrev pub form_kind : List Global → Earlier → Form → Option Kind
-form_kind globals earlier f = option_or (fault_kind (form_faults globals earlier f)) (if nat_lt 500 (nests (form_core globals earlier.values f)) then Some kind.Nesting else None)
+form_kind globals earlier f = option_or (fault_kind (form_faults globals earlier f)) (if nat_lt deepest_nesting (nests (form_core globals earlier.values f)) then Some kind.Nesting else None)
 
 -- the names that stand for the forms behind this one
 abbrev pub behind : Earlier → Form → Earlier

@@ -10,9 +10,9 @@ use Rattle.fr_expand.specs.declared.refusal.Kind.TheVariants as kind
 use Rattle.fr_expand.specs.Expansion.{cores_from, program_in, AreFit, IsExpansion, IsFirstUnfit}
 
 -- a refusal is the forms' expansion; want of memory tells nothing of them
-abbrev pub Tells : List Datum → ExpandStop → Type 0
-Tells ds (Memory e) = Unit {0}
-Tells ds (Refused r) = IsExpansion ds (Err r)
+abbrev pub IsStopOf : List Datum → ExpandStop → Type 0
+IsStopOf ds (Memory e) = Unit {0}
+IsStopOf ds (Refused r) = IsExpansion ds (Err r)
 
 -- what the second pass makes of these forms: their program where it is fit, and else the refusal of the first form that isn't; want of memory tells nothing of them
 abbrev pub Decides : List Global → List Form → Result Program ExpandStop → Type 0

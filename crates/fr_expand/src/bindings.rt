@@ -1,5 +1,7 @@
+//! The names that a form binds: which of them are keywords or stand twice, and their scope.
 ghost use Rattle.std.specs.Prelude.{◌≡◌, ◌≤◌, ◌+◌, ◌++◌, false, length, IfOk, OnOk};
 ghost use Rattle.std.specs.Str.{bytes_eq};
+ghost use Rattle.fr_scope.specs.Meanings.{most_numbered};
 ghost use Rattle.fr_expand.specs.Faults.{is_keyword, any_keyword, any_twice, binding_faults, chain_faults, named};
 ghost use Rattle.fr_expand.specs.Shapes.{names_of};
 
@@ -83,7 +85,7 @@ fn is_same(a: &Symbol, b: &Symbol) -> bool
 
 /// One more variable for each of these names, the last one innermost.
 pub(crate) fn bind(scope: &mut Scope, names: Names<'_>) -> Result<(), AllocError>
-    requires { length scope.old + length (names_of names) ≤ 4294967295 }
+    requires { length scope.old + length (names_of names) ≤ most_numbered }
     ensures { OnOk result (scope.new ≡ scope.old ++ named (names_of names.entry)) }
 {
     match names {
@@ -98,7 +100,7 @@ pub(crate) fn bind(scope: &mut Scope, names: Names<'_>) -> Result<(), AllocError
 
 /// The same for a list of names.
 fn bind_all(scope: &mut Scope, names: &[Symbol]) -> Result<(), AllocError>
-    requires { length scope.old + length names.now ≤ 4294967295 }
+    requires { length scope.old + length names.now ≤ most_numbered }
     ensures { OnOk result (scope.new ≡ scope.old ++ named names.now) }
 {
     for name in names {
@@ -109,7 +111,7 @@ fn bind_all(scope: &mut Scope, names: &[Symbol]) -> Result<(), AllocError>
 
 /// The variables of a function's parameters.
 pub(crate) fn scope_of(alloc: Global, params: &[Symbol]) -> Result<Scope, AllocError>
-    requires { length params.now ≤ 4294967295 }
+    requires { length params.now ≤ most_numbered }
     ensures { IfOk result (λ s. s ≡ named params.now) }
 {
     let mut scope = Scope::new(alloc);

@@ -1,6 +1,8 @@
+//! The program that forms are, where none of them is refused in the first pass.
 ghost use Rattle.std.specs.Prelude.{◌≡◌, ◌+◌, ◌<◌, ◌≤◌, [], map, length, IfOk, OnOk};
 ghost use Rattle.fr_value.specs.Data.{total};
 ghost use Rattle.fr_syntax.specs.Weights.{form_weight, weight};
+ghost use Rattle.fr_scope.specs.Meanings.{most_numbered};
 ghost use Rattle.fr_expand.specs.Expansion.{events_from, functions_in, inputs_from, items_from, program_in};
 ghost use Rattle.fr_expand.specs.Faults.{named};
 ghost use Rattle.fr_expand.specs.Items.{item_of, values_behind};
@@ -97,7 +99,7 @@ fn function_of(
     params: &[Symbol],
     body: &Expr,
 ) -> Result<Function, AllocError>
-    requires { length params.now + weight body.now ≤ 4294967295 }
+    requires { length params.now + weight body.now ≤ most_numbered }
     ensures { IfOk result (λ f. f ≡ record { name = name.now; params = length params.now; body = core_of globals.now body.now (named params.now) }) }
 {
     let name = name.share()?;
@@ -116,7 +118,7 @@ fn body_of(
     params: &[Symbol],
     body: &Expr,
 ) -> Result<Core, AllocError>
-    requires { length params.now + weight body.now ≤ 4294967295 }
+    requires { length params.now + weight body.now ≤ most_numbered }
     ensures { IfOk result (λ c. c ≡ core_of globals.now body.now (named params.now)) }
 {
     let mut scope = scope_of(alloc, params)?;
@@ -147,7 +149,7 @@ fn item_of(
     form: &Form,
 ) -> Result<Option<Item>, AllocError>
     requires named { AreNamed values.old }
-    requires few { length values.old + form_weight form.now ≤ 4294967295 }
+    requires few { length values.old + form_weight form.now ≤ most_numbered }
     ensures made { IfOk result (λ i. i ≡ item_of globals.now (names_in values.old) form.now) }
     ensures values { OnOk result (values.new ≡ values.old) }
 {
@@ -164,7 +166,7 @@ fn item_of(
 /// The values behind a form.
 fn add_value(values: &mut Scope, form: &Form) -> Result<(), AllocError>
     requires named { AreNamed values.old }
-    requires few { length values.old < 4294967295 }
+    requires few { length values.old < most_numbered }
     ensures added { OnOk result (names_in values.new ≡ values_behind (names_in values.old) form.now) }
     ensures named { OnOk result (AreNamed values.new) }
     ensures few { OnOk result (length values.new ≤ length values.old + 1) }

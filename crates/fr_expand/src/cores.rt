@@ -1,3 +1,4 @@
+//! The core expressions of truth values and of names.
 ghost use Rattle.std.specs.Prelude.{◌≡◌, IfOk};
 ghost use Rattle.fr_core.specs.declared.core_form.Core.TheVariants as core;
 ghost use Rattle.fr_expand.specs.Translation.{truth, value_core, call_core};

@@ -1,9 +1,10 @@
+//! How deep a core expression nests, read off the expression that it stands for.
 ghost use Rattle.std.specs.Prelude.{◌≡◌, ◌+◌, ◌≤◌, List, map, max, min, take};
 ghost use Rattle.fr_core.specs.WellFormed.{nesting};
 ghost use Rattle.fr_scope.specs.Meanings.{Binder};
 ghost use Rattle.fr_syntax.specs.Outlines.{Global};
 ghost use Rattle.fr_value.specs.Data.{greatest};
-ghost use Rattle.fr_expand.specs.Depths.{depth, around, and_depth, or_depth};
+ghost use Rattle.fr_expand.specs.Depths.{depth, around, and_depth, or_depth, count_end};
 ghost use Rattle.fr_expand.specs.Translation.{core_of};
 
 use fr_syntax::Expr;
@@ -15,15 +16,15 @@ const END: u32 = 501;
 ///
 /// It takes time in the expression's size, no memory, and stack only for what nests in the text itself.
 pub(crate) fn depth(expr: &Expr) -> u32
-    ensures { (globals : List Global) (scope : List Binder) → result ≡ min 501 (nesting (core_of globals expr.now scope)) }
+    ensures { (globals : List Global) (scope : List Binder) → result ≡ min count_end (nesting (core_of globals expr.now scope)) }
 {
     depth_of(expr)
 }
 
 /// One level above parts of that depth.
 fn above(parts: u32) -> u32
-    requires { parts ≤ 501 }
-    ensures { result ≡ min 501 (1 + parts) }
+    requires { parts ≤ count_end }
+    ensures { result ≡ min count_end (1 + parts) }
 {
     (1 + parts).min(END)
 }
@@ -32,7 +33,7 @@ fn above(parts: u32) -> u32
 #[cycle(depth)]
 #[tactic(auto, using(crate::proofs::Views::depth_opens, crate::proofs::Opened::opened, crate::proofs::Chains::capped))]
 fn depth_of(expr: &Expr) -> u32
-    ensures { result ≡ min 501 (depth expr.now) }
+    ensures { result ≡ min count_end (depth expr.now) }
 {
     match expr {
         Expr::Literal(_) | Expr::Name(_) => 1,
@@ -74,7 +75,7 @@ fn depth_of(expr: &Expr) -> u32
 /// The greatest depth of any, and 0 where there is none.
 #[cycle(depth)]
 fn depth_of_each(exprs: &[Expr]) -> u32
-    ensures { result ≡ min 501 (greatest (map depth exprs.now)) }
+    ensures { result ≡ min count_end (greatest (map depth exprs.now)) }
 {
     let mut greatest = 0;
     for expr in exprs {
@@ -87,8 +88,8 @@ fn depth_of_each(exprs: &[Expr]) -> u32
 /// stands last has that depth.
 #[cycle(depth)]
 fn depth_of_chain(parts: &[Expr], count: usize, last: u32) -> u32
-    requires { last ≤ 501 }
-    ensures { result ≡ min 501 (around (take count (map depth parts.now)) last) }
+    requires { last ≤ count_end }
+    ensures { result ≡ min count_end (around (take count (map depth parts.now)) last) }
 {
     let mut rest = last;
     for at in (0..count.min(parts.len())).rev() {
@@ -100,7 +101,7 @@ fn depth_of_chain(parts: &[Expr], count: usize, last: u32) -> u32
 /// The depth where each part but the last is a test around what is behind it.
 #[cycle(depth)]
 fn depth_of_and(parts: &[Expr]) -> u32
-    ensures { result ≡ min 501 (and_depth (map depth parts.now)) }
+    ensures { result ≡ min count_end (and_depth (map depth parts.now)) }
 {
     let Some(last) = parts.last() else {
         return 1;
@@ -115,7 +116,7 @@ fn depth_of_and(parts: &[Expr]) -> u32
 /// The depth where each part but the last is bound and tested around what is behind it.
 #[cycle(depth)]
 fn depth_of_or(parts: &[Expr]) -> u32
-    ensures { result ≡ min 501 (or_depth (map depth parts.now)) }
+    ensures { result ≡ min count_end (or_depth (map depth parts.now)) }
 {
     let Some(last) = parts.last() else {
         return 1;

@@ -1,5 +1,7 @@
+//! What earlier forms of a program define, and what is wrong with the names of a form behind them.
 ghost use Rattle.std.specs.Prelude.{◌≡◌, ◌+◌, ◌≤◌, ◌<◌, false, length, IfOk, OnOk};
 ghost use Rattle.fr_syntax.specs.Weights.{form_weight, weight};
+ghost use Rattle.fr_scope.specs.Meanings.{most_numbered};
 ghost use Rattle.fr_expand.specs.Faults.{faults, named};
 ghost use Rattle.fr_expand.specs.Passes.{behind, definition_faults, form_faults, is_reserved, nothing_yet, show_faults};
 ghost use Rattle.fr_expand.specs.Shaped.{earlier_of, is_taken, AreNamed};
@@ -69,7 +71,7 @@ impl<'a> EarlierNames<'a> {
         form: &Form,
     ) -> Result<Faults, AllocError>
         requires named { AreNamed self.old.values }
-        requires few { length self.old.values + form_weight form.now ≤ 4294967295 }
+        requires few { length self.old.values + form_weight form.now ≤ most_numbered }
         ensures found { IfOk result (λ f. f ≡ form_faults globals.now (earlier_of self.old) form.now) }
         ensures unchanged { OnOk result (self.new ≡ self.old) }
     {
@@ -95,7 +97,7 @@ impl<'a> EarlierNames<'a> {
     pub(crate) fn add(&mut self, form: &'a Form) -> Result<(), AllocError>
         requires fresh { is_taken (earlier_of self.old) form.now ≡ false }
         requires named { AreNamed self.old.values }
-        requires few { length self.old.values < 4294967295 }
+        requires few { length self.old.values < most_numbered }
         ensures added { OnOk result (earlier_of self.new ≡ behind (earlier_of self.old) form.now) }
         ensures named { OnOk result (AreNamed self.new.values) }
         ensures few { OnOk result (length self.new.values ≤ length self.old.values + 1) }
@@ -128,7 +130,7 @@ fn body_faults(
     params: &[Symbol],
     body: &Expr,
 ) -> Result<Faults, AllocError>
-    requires { length params.now + weight body.now ≤ 4294967295 }
+    requires { length params.now + weight body.now ≤ most_numbered }
     ensures { IfOk result (λ f. f ≡ faults globals.now body.now (named params.now)) }
 {
     let mut scope = scope_of(alloc, params)?;

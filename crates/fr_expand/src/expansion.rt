@@ -1,9 +1,9 @@
 ghost use Rattle.std.specs.Prelude.{◌≡◌, ◌+◌, ◌<◌, ◌≤◌, IfOk, IfErr, map, Ok};
 ghost use Rattle.fr_value.specs.Data.{data_of, datum_size, total};
-ghost use Rattle.fr_core.specs.WellFormed.{count, roots, IsWellFormed};
+ghost use Rattle.fr_core.specs.WellFormed.{count, roots, IsWellFormed, most_entries};
 ghost use Rattle.fr_syntax.specs.Weights.{form_weight};
-ghost use Rattle.fr_expand.specs.Expansion.{IsExpansion};
-ghost use Rattle.fr_expand.specs.Stops.{Decides, Tells};
+ghost use Rattle.fr_expand.specs.Expansion.{IsExpansion, expression_limit};
+ghost use Rattle.fr_expand.specs.Stops.{Decides, IsStopOf};
 ghost use Rattle.fr_expand.specs.declared.expansion.ExpandStop.TheVariants.{Refused};
 
 use crate::building::program_in;
@@ -47,8 +47,8 @@ pub fn expand(alloc: Global, forms: &[Value]) -> Result<Program, ExpandStop>
     requires { total (map datum_size (data_of forms.now)) ≤ 8388608 }
     ensures expanded { IfOk result (λ p. IsExpansion (data_of forms.now) (Ok p)) }
     ensures well_formed { IfOk result IsWellFormed }
-    ensures few { IfOk result (λ p. total (map (λ r. count r.expr) (roots p)) < 268435456) }
-    ensures refused { IfErr result (Tells (data_of forms.now)) }
+    ensures few { IfOk result (λ p. total (map (λ r. count r.expr) (roots p)) < expression_limit) }
+    ensures refused { IfErr result (IsStopOf (data_of forms.now)) }
 {
     let globals = Globals::of(alloc, forms)?;
     let shapes = shaped_forms(alloc, forms)?;
@@ -77,7 +77,7 @@ fn fit_program(alloc: Global, globals: &Globals, forms: &[Form]) -> Result<Progr
 
 /// The form at a place, counted from 0, is refused.
 fn refused(place: usize, kind: Kind) -> ExpandStop
-    requires { place < 4294967295 }
+    requires { place < most_entries }
     ensures { result ≡ Refused (record { form = place + 1; kind = kind }) }
 {
     ExpandStop::Refused(Refusal::at(place, kind))

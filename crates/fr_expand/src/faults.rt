@@ -1,6 +1,7 @@
-ghost use Rattle.std.specs.Prelude.{◌≡◌, ◌≤◌, ◌+◌, ◌++◌, [], ◌∷◌, map, length, IfOk, OnOk};
+//! What is wrong with the names of an expression.
+ghost use Rattle.std.specs.Prelude.{◌≡◌, ◌≤◌, ◌+◌, ◌++◌, map, length, IfOk, OnOk};
 ghost use Rattle.fr_syntax.specs.Weights.{weight};
-ghost use Rattle.fr_scope.specs.Meanings.{meaning_of};
+ghost use Rattle.fr_scope.specs.Meanings.{meaning_of, most_numbered};
 ghost use Rattle.fr_value.specs.Data.{total};
 ghost use Rattle.fr_expand.specs.Faults.{clean, with, value_fault, callee_fault, unless_keyword, is_keyword, binding_faults, chain_faults, named, all_faults, chained_faults, faults};
 ghost use Rattle.fr_expand.specs.Shapes.{exprs_of, names_of};
@@ -115,7 +116,7 @@ pub(crate) fn faults_in(
     scope: &mut Scope,
     expr: &Expr,
 ) -> Result<Faults, AllocError>
-    requires { length scope.old + weight expr.now ≤ 4294967295 }
+    requires { length scope.old + weight expr.now ≤ most_numbered }
     ensures found { IfOk result (λ f. f ≡ faults globals.now expr.now scope.old) }
     ensures scope { OnOk result (scope.new ≡ scope.old) }
 {
@@ -160,7 +161,7 @@ fn faults_in_group(
     scope: &mut Scope,
     parts: Parts<'_>,
 ) -> Result<Faults, AllocError>
-    requires { length scope.old + total (map weight (exprs_of parts)) ≤ 4294967295 }
+    requires { length scope.old + total (map weight (exprs_of parts)) ≤ most_numbered }
     ensures found { IfOk result (λ f. f ≡ all_faults (map (faults globals.now) (exprs_of parts.entry)) scope.old) }
     ensures scope { OnOk result (scope.new ≡ scope.old) }
 {
@@ -182,7 +183,7 @@ fn faults_in_each(
     scope: &mut Scope,
     parts: &[Expr],
 ) -> Result<Faults, AllocError>
-    requires { length scope.old + total (map weight parts.now) ≤ 4294967295 }
+    requires { length scope.old + total (map weight parts.now) ≤ most_numbered }
     ensures found { IfOk result (λ f. f ≡ all_faults (map (faults globals.now) parts.now) scope.old) }
     ensures scope { OnOk result (scope.new ≡ scope.old) }
 {
@@ -203,7 +204,7 @@ fn faults_in_binding(
     parts: Parts<'_>,
     body: &Expr,
 ) -> Result<Faults, AllocError>
-    requires { length scope.old + length (names_of names) + total (map weight (exprs_of parts)) + weight body.now ≤ 4294967295 }
+    requires { length scope.old + length (names_of names) + total (map weight (exprs_of parts)) + weight body.now ≤ most_numbered }
     ensures found { let bound = names_of names.entry in
         IfOk result (λ f. f ≡ with (binding_faults bound) (with (all_faults (map (faults globals.now) (exprs_of parts.entry)) scope.old) (faults globals.now body.now (scope.old ++ named bound)))) }
     ensures scope { OnOk result (scope.new ≡ scope.old) }
@@ -227,7 +228,7 @@ fn faults_in_chain(
     parts: &[Expr],
     body: &Expr,
 ) -> Result<Faults, AllocError>
-    requires { length scope.old + length names.now + total (map weight parts.now) + weight body.now ≤ 4294967295 }
+    requires { length scope.old + length names.now + total (map weight parts.now) + weight body.now ≤ most_numbered }
     ensures found { IfOk result (λ f. f ≡ with (chain_faults names.now) (chained_faults names.now (map (faults globals.now) parts.now) (faults globals.now body.now) scope.old)) }
     ensures scope { OnOk result (scope.new ≡ scope.old) }
 {

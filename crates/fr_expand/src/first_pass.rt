@@ -1,7 +1,10 @@
+//! The first pass over the forms: each is looked at by itself, behind those before it.
 ghost use Rattle.std.specs.Prelude.{◌≡◌, ◌+◌, ◌≤◌, ◌<◌, ℕ, List, Some, map, nat_lt, length, IfOk, OnOk};
 ghost use Rattle.fr_value.specs.Data.{total};
 ghost use Rattle.fr_syntax.specs.Outlines.{Global as GlobalName};
 ghost use Rattle.fr_syntax.specs.Weights.{form_weight};
+ghost use Rattle.fr_scope.specs.Meanings.{most_numbered};
+ghost use Rattle.fr_expand.specs.Depths.{deepest_nesting};
 ghost use Rattle.fr_expand.specs.Items.{form_core};
 ghost use Rattle.fr_expand.specs.Passes.{fault_kind, form_kind, nests, nothing_yet, refusal_from};
 ghost use Rattle.fr_expand.specs.Shaped.{earlier_of, AreNamed};
@@ -59,7 +62,7 @@ fn form_kind(
     form: &Form,
 ) -> Result<Option<Kind>, AllocError>
     requires named { AreNamed earlier.old.values }
-    requires few { length earlier.old.values + form_weight form.now ≤ 4294967295 }
+    requires few { length earlier.old.values + form_weight form.now ≤ most_numbered }
     ensures found { IfOk result (λ k. k ≡ form_kind globals.now (earlier_of earlier.old) form.now) }
     ensures unchanged { OnOk result (earlier.new ≡ earlier.old) }
 {
@@ -88,7 +91,7 @@ fn fault_kind(faults: Faults) -> Option<Kind>
 
 /// Whether the core expression of a form nests too deep.
 fn nests_too_deep(form: &Form) -> bool
-    ensures { (globals : List GlobalName) → (values : List (List ℕ)) → result ≡ nat_lt 500 (nests (form_core globals values form.now)) }
+    ensures { (globals : List GlobalName) → (values : List (List ℕ)) → result ≡ nat_lt deepest_nesting (nests (form_core globals values form.now)) }
 {
     match form {
         Form::Input(..) | Form::Event(_) => false,

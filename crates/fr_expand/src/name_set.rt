@@ -1,3 +1,4 @@
+//! Sets of names.
 ghost use Rattle.std.specs.Prelude.{◌≡◌, ◌∷◌, ◌++◌, [], false, OnOk};
 ghost use Rattle.fr_expand.specs.Faults.{is_among};
 

@@ -1,4 +1,6 @@
+//! Why forms are no program.
 ghost use Rattle.std.specs.Prelude.{◌≡◌, ◌+◌, ◌<◌};
+ghost use Rattle.fr_core.specs.WellFormed.{most_entries};
 
 /// Why a form is refused. Where several hold of a form, the first of these is told.
 #[derive(Clone, Copy, Debug, PartialEq, Eq)]
@@ -28,7 +30,7 @@ pub struct Refusal {
 impl Refusal {
     /// The refusal of the form at a place, counted from 0.
     pub(crate) fn at(place: usize, kind: Kind) -> Refusal
-        requires { place < 4294967295 }
+        requires { place < most_entries }
         ensures { result ≡ record { form = place + 1; kind = kind } }
     {
         Refusal {

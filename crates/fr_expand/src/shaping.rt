@@ -1,3 +1,4 @@
+//! The forms that data are, up to the first that is none.
 ghost use Rattle.std.specs.Prelude.{◌≡◌, IfOk};
 ghost use Rattle.fr_value.specs.Data.{data_of};
 ghost use Rattle.fr_expand.specs.Shaped.{shaped};

@@ -1,7 +1,9 @@
+//! The core expression that an expression stands for.
 ghost use Rattle.std.specs.Prelude.{◌≡◌, ◌≤◌, ◌+◌, ◌++◌, [], ◌∷◌, map, length, IfOk, OnOk};
 ghost use Rattle.fr_core.specs.declared.core_form.Core.TheVariants as core;
 ghost use Rattle.fr_syntax.specs.Weights.{weight};
 ghost use Rattle.fr_value.specs.Data.{total};
+ghost use Rattle.fr_scope.specs.Meanings.{most_numbered};
 ghost use Rattle.fr_expand.specs.Faults.{named};
 ghost use Rattle.fr_expand.specs.Shapes.{exprs_of, names_of};
 ghost use Rattle.fr_expand.specs.Translation.{core_of, each_core, chained_core, cond_core, and_core, or_core};
@@ -27,7 +29,7 @@ pub(crate) fn core_in(
     scope: &mut Scope,
     expr: &Expr,
 ) -> Result<Core, AllocError>
-    requires { length scope.old + weight expr.now ≤ 4294967295 }
+    requires { length scope.old + weight expr.now ≤ most_numbered }
     ensures made { IfOk result (λ c. c ≡ core_of globals.now expr.now scope.old) }
     ensures scope { OnOk result (scope.new ≡ scope.old) }
 {
@@ -70,7 +72,7 @@ fn boxed_core(
     scope: &mut Scope,
     expr: &Expr,
 ) -> Result<Boxed<Core>, AllocError>
-    requires { length scope.old + weight expr.now ≤ 4294967295 }
+    requires { length scope.old + weight expr.now ≤ most_numbered }
     ensures made { IfOk result (λ c. c ≡ core_of globals.now expr.now scope.old) }
     ensures scope { OnOk result (scope.new ≡ scope.old) }
 {
@@ -86,7 +88,7 @@ fn cores_in(
     scope: &mut Scope,
     parts: Parts<'_>,
 ) -> Result<Items<Core>, AllocError>
-    requires { length scope.old + total (map weight (exprs_of parts)) ≤ 4294967295 }
+    requires { length scope.old + total (map weight (exprs_of parts)) ≤ most_numbered }
     ensures made { IfOk result (λ cs. cs ≡ each_core (map (core_of globals.now) (exprs_of parts.entry)) scope.old) }
     ensures scope { OnOk result (scope.new ≡ scope.old) }
 {
@@ -104,7 +106,7 @@ fn add_group(
     parts: Parts<'_>,
     cores: &mut Items<Core>,
 ) -> Result<(), AllocError>
-    requires { length scope.old + total (map weight (exprs_of parts)) ≤ 4294967295 }
+    requires { length scope.old + total (map weight (exprs_of parts)) ≤ most_numbered }
     ensures made { OnOk result (cores.new ≡ cores.old ++ each_core (map (core_of globals.now) (exprs_of parts.entry)) scope.old) }
     ensures scope { OnOk result (scope.new ≡ scope.old) }
 {
@@ -132,7 +134,7 @@ fn add_core(
     part: &Expr,
     cores: &mut Items<Core>,
 ) -> Result<(), AllocError>
-    requires { length scope.old + weight part.now ≤ 4294967295 }
+    requires { length scope.old + weight part.now ≤ most_numbered }
     ensures made { OnOk result (cores.new ≡ cores.old ++ core_of globals.now part.now scope.old ∷ []) }
     ensures scope { OnOk result (scope.new ≡ scope.old) }
 {
@@ -149,7 +151,7 @@ fn core_under(
     names: Names<'_>,
     body: &Expr,
 ) -> Result<Boxed<Core>, AllocError>
-    requires { length scope.old + length (names_of names) + weight body.now ≤ 4294967295 }
+    requires { length scope.old + length (names_of names) + weight body.now ≤ most_numbered }
     ensures made { IfOk result (λ c. c ≡ core_of globals.now body.now (scope.old ++ named (names_of names.entry))) }
     ensures scope { OnOk result (scope.new ≡ scope.old) }
 {
@@ -170,7 +172,7 @@ fn test_core(
     then: &Expr,
     other: Boxed<Core>,
 ) -> Result<Core, AllocError>
-    requires { length scope.old + weight test.now + weight then.now ≤ 4294967295 }
+    requires { length scope.old + weight test.now + weight then.now ≤ most_numbered }
     ensures made { IfOk result (λ c. c ≡ core.If (core_of globals.now test.now scope.old) (core_of globals.now then.now scope.old) other) }
     ensures scope { OnOk result (scope.new ≡ scope.old) }
 {
@@ -188,7 +190,7 @@ fn let_core(
     part: &Expr,
     body: Boxed<Core>,
 ) -> Result<Core, AllocError>
-    requires { length scope.old + weight part.now ≤ 4294967295 }
+    requires { length scope.old + weight part.now ≤ most_numbered }
     ensures made { IfOk result (λ c. c ≡ core.Let (core_of globals.now part.now scope.old ∷ []) body) }
     ensures scope { OnOk result (scope.new ≡ scope.old) }
 {
@@ -207,7 +209,7 @@ fn chained_core(
     parts: &[Expr],
     body: &Expr,
 ) -> Result<Core, AllocError>
-    requires { length scope.old + length names.now + total (map weight parts.now) + weight body.now ≤ 4294967295 }
+    requires { length scope.old + length names.now + total (map weight parts.now) + weight body.now ≤ most_numbered }
     ensures made { IfOk result (λ c. c ≡ chained_core names.now (map (core_of globals.now) parts.now) (core_of globals.now body.now) scope.old) }
     ensures scope { OnOk result (scope.new ≡ scope.old) }
 {
@@ -236,7 +238,7 @@ fn cond_core(
     parts: &[Expr],
     other: &Expr,
 ) -> Result<Core, AllocError>
-    requires { length scope.old + total (map weight tests.now) + total (map weight parts.now) + weight other.now ≤ 4294967295 }
+    requires { length scope.old + total (map weight tests.now) + total (map weight parts.now) + weight other.now ≤ most_numbered }
     ensures made { IfOk result (λ c. c ≡ cond_core (each_core (map (core_of globals.now) tests.now) scope.old) (each_core (map (core_of globals.now) parts.now) scope.old)
         (core_of globals.now other.now scope.old)) }
     ensures scope { OnOk result (scope.new ≡ scope.old) }
@@ -260,7 +262,7 @@ fn and_core(
     scope: &mut Scope,
     parts: &[Expr],
 ) -> Result<Core, AllocError>
-    requires { length scope.old + total (map weight parts.now) ≤ 4294967295 }
+    requires { length scope.old + total (map weight parts.now) ≤ most_numbered }
     ensures made { IfOk result (λ c. c ≡ and_core (each_core (map (core_of globals.now) parts.now) scope.old)) }
     ensures scope { OnOk result (scope.new ≡ scope.old) }
 {
@@ -285,7 +287,7 @@ fn or_core(
     scope: &mut Scope,
     parts: &[Expr],
 ) -> Result<Core, AllocError>
-    requires { length scope.old + total (map weight parts.now) ≤ 4294967295 }
+    requires { length scope.old + total (map weight parts.now) ≤ most_numbered }
     ensures made { IfOk result (λ c. c ≡ or_core (map (core_of globals.now) parts.now) scope.old) }
     ensures scope { OnOk result (scope.new ≡ scope.old) }
 {

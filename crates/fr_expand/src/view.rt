@@ -1,3 +1,4 @@
+//! Expressions by their shapes: the parts, the names and what is bound where.
 ghost use Rattle.std.specs.Prelude.{◌≡◌};
 ghost use Rattle.fr_expand.specs.Shapes.{seen, shape_of};
 

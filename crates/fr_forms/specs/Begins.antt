@@ -8,7 +8,7 @@ use Rattle.fr_meaning.specs.States.{Line as FormLine, Begun as FormBegun, known,
 use Rattle.fr_forms.specs.declared.handlers.CallArgs.{CallArgs}
 use Rattle.fr_forms.specs.declared.handlers.Begun.{Begun}
 use Rattle.fr_forms.specs.declared.handlers.Begun.TheVariants as begun
-use Rattle.fr_forms.specs.Lent.{line_of, bound}
+use Rattle.fr_forms.specs.Lent.{form_line, bound}
 
 -- the arguments of a handler's call
 abbrev pub args_of : CallArgs → List Seen
@@ -16,7 +16,7 @@ args_of a = plain a.payload.now ∷ bound a.state
 
 -- a form with a handler that the code has begun
 abbrev pub begun_of : Begun → FormBegun
-begun_of (begun.Gives l) = known (line_of l)
+begun_of (begun.Gives l) = known (form_line l)
 begun_of (begun.Asks a) = asks (args_of a)
 
 -- the line of a form with a state where its event doesn't occur

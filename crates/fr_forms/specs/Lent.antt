@@ -47,5 +47,5 @@ kind_of kind.KeepsDatum = keeps_datum
 kind_of kind.KeepsPayload = keeps_payload
 
 -- a line that the code holds, without a handler's call
-abbrev pub line_of : Line → FormLine
-line_of l = record { value = l.value; next = next_of l.next; cost = 0; inner = None; refusal = l.refusal }
+abbrev pub form_line : Line → FormLine
+form_line l = record { value = l.value; next = next_of l.next; cost = 0; inner = None; refusal = l.refusal }

@@ -1,3 +1,4 @@
+//! Primitives over the values of parts.
 ghost use Rattle.std.specs.Prelude.{◌≡◌, ◌∷◌, [], Some, IfOk};
 ghost use Rattle.fr_meaning.specs.Primitives.{first_bad, plain_values, on_values, applied};
 

@@ -1,7 +1,8 @@
+//! Forms with a handler: what stands before its call, and what the form makes of the call's value.
 ghost use Rattle.std.specs.Prelude.{◌≡◌, [], IfOk};
 ghost use Rattle.fr_core.specs.declared.core_form.Handler.TheVariants as handler;
 ghost use Rattle.fr_meaning.specs.States.{event_begin, collect_begin, handler_begin, handler_line, passed};
-ghost use Rattle.fr_forms.specs.Lent.{earlier, line_of};
+ghost use Rattle.fr_forms.specs.Lent.{earlier, form_line};
 ghost use Rattle.fr_forms.specs.Begins.{begun_of, args_of, quiet};
 
 use crate::lines::{Cell, LentCell, Line, bad_line, keeping_line, plain_line, staying_line};
@@ -44,7 +45,7 @@ fn begin_event(parts: &[Seen]) -> Begun<'_>
 
 /// The line of a form with a state where its event doesn't occur.
 fn quiet_line(handler: Handler, base: &Value) -> Result<Line, AllocError>
-    ensures { IfOk result (λ l. line_of l ≡ quiet handler base.now) }
+    ensures { IfOk result (λ l. form_line l ≡ quiet handler base.now) }
 {
     match handler {
         Handler::CollectE => staying_line(base),
@@ -103,7 +104,7 @@ fn passed_payload(args: CallArgs<'_>, holds: bool) -> Result<Option<Value>, Allo
 }
 
 fn end_filter(args: CallArgs<'_>, given: &Seen) -> Result<Line, AllocError>
-    ensures { IfOk result (λ l. line_of l ≡ handler_line handler.FilterE (args_of args.entry) given.now) }
+    ensures { IfOk result (λ l. form_line l ≡ handler_line handler.FilterE (args_of args.entry) given.now) }
 {
     match test_in(given) {
         Err(bad) => Ok(bad_line(bad)),
@@ -112,7 +113,7 @@ fn end_filter(args: CallArgs<'_>, given: &Seen) -> Result<Line, AllocError>
 }
 
 fn end_map(given: &Seen) -> Result<Line, AllocError>
-    ensures { IfOk result (λ l. line_of l ≡ handler_line handler.MapE [] given.now) }
+    ensures { IfOk result (λ l. form_line l ≡ handler_line handler.MapE [] given.now) }
 {
     match plain_in(given) {
         Err(bad) => Ok(bad_line(bad)),
@@ -121,7 +122,7 @@ fn end_map(given: &Seen) -> Result<Line, AllocError>
 }
 
 fn end_collect_b(given: &Seen) -> Result<Line, AllocError>
-    ensures { IfOk result (λ l. line_of l ≡ handler_line handler.CollectB [] given.now) }
+    ensures { IfOk result (λ l. form_line l ≡ handler_line handler.CollectB [] given.now) }
 {
     match plain_in(given) {
         Err(bad) => Ok(bad_line(bad)),
@@ -130,7 +131,7 @@ fn end_collect_b(given: &Seen) -> Result<Line, AllocError>
 }
 
 fn end_collect_e(given: &Seen) -> Result<Line, AllocError>
-    ensures { IfOk result (λ l. line_of l ≡ handler_line handler.CollectE [] given.now) }
+    ensures { IfOk result (λ l. form_line l ≡ handler_line handler.CollectE [] given.now) }
 {
     match plain_in(given) {
         Err(bad) => Ok(bad_line(bad)),
@@ -144,7 +145,7 @@ fn end_collect_e(given: &Seen) -> Result<Line, AllocError>
 /// The line of a form with a handler, over the arguments of the handler's call and the value that it gave. It fails only
 /// where there is no memory.
 pub fn end_handler(handler: Handler, args: CallArgs<'_>, given: &Seen) -> Result<Line, AllocError>
-    ensures { IfOk result (λ l. line_of l ≡ handler_line handler (args_of args.entry) given.now) }
+    ensures { IfOk result (λ l. form_line l ≡ handler_line handler (args_of args.entry) given.now) }
 {
     match handler {
         Handler::MapE => end_map(given),

@@ -1,6 +1,7 @@
+//! What a form gives, and what it keeps in its cell.
 ghost use Rattle.std.specs.Prelude.{◌≡◌, IfOk, Err, None};
 ghost use Rattle.fr_meaning.specs.States.{gives, keeps, stays, cell_kind, of_operator, of_handler};
-ghost use Rattle.fr_forms.specs.Lent.{next_of, line_of, kind_of};
+ghost use Rattle.fr_forms.specs.Lent.{next_of, form_line, kind_of};
 
 use crate::seen::Seen;
 use fr_core::{Handler, Operator};
@@ -73,7 +74,7 @@ pub fn handler_cell(handler: Handler) -> CellKind
 
 /// A line that refuses no part.
 pub fn plain_line(value: Seen, next: Option<Cell>) -> Line
-    ensures { line_of result ≡ gives value (next_of next) }
+    ensures { form_line result ≡ gives value (next_of next) }
 {
     Line {
         value,
@@ -84,14 +85,14 @@ pub fn plain_line(value: Seen, next: Option<Cell>) -> Line
 
 /// A line that is Bad.
 pub fn bad_line(bad: Bad) -> Line
-    ensures { line_of result ≡ gives (Err bad) None }
+    ensures { form_line result ≡ gives (Err bad) None }
 {
     plain_line(Err(bad), None)
 }
 
 /// A line with a plain value that its cell keeps. It fails only where there is no memory.
 pub fn keeping_line(value: &Value) -> Result<Line, AllocError>
-    ensures { IfOk result (λ l. line_of l ≡ keeps value.now) }
+    ensures { IfOk result (λ l. form_line l ≡ keeps value.now) }
 {
     let next = Some(Cell::Datum(value.share()?));
     Ok(plain_line(Ok(Now::Plain(value.share()?)), next))
@@ -99,7 +100,7 @@ pub fn keeping_line(value: &Value) -> Result<Line, AllocError>
 
 /// A line without an occurrence, whose cell keeps this. It fails only where there is no memory.
 pub fn staying_line(base: &Value) -> Result<Line, AllocError>
-    ensures { IfOk result (λ l. line_of l ≡ stays base.now) }
+    ensures { IfOk result (λ l. form_line l ≡ stays base.now) }
 {
     Ok(plain_line(Ok(Now::Occ(None)), Some(Cell::Datum(base.share()?))))
 }

@@ -1,9 +1,10 @@
+//! The lines of the operators and of `feedback`.
 ghost use Rattle.std.specs.Prelude.{◌≡◌, ◌∷◌, [], IfOk, None};
-ghost use Rattle.std.specs.Option.{option_copied, option_or};
+ghost use Rattle.std.specs.Option.{option_copied};
 ghost use Rattle.fr_core.specs.declared.core_form.Operator.TheVariants as operator;
-ghost use Rattle.fr_meaning.specs.Words.{on_ok, part, datum_in, event_of};
+ghost use Rattle.fr_meaning.specs.Words.{on_ok, part, event_of};
 ghost use Rattle.fr_meaning.specs.States.{base_of, leftmost, change, is_spent, once_line as line_once, plain_or_bad, occurrence, fed, datum_next as next_datum, payload_next as next_payload, beside, refusal_in, refused_by, of_operator, of_feedback, no_call, state_now};
-ghost use Rattle.fr_forms.specs.Lent.{lent, earlier, cell_of, line_of};
+ghost use Rattle.fr_forms.specs.Lent.{lent, earlier, cell_of, form_line};
 
 use crate::applying::apply_primitive;
 use crate::lines::{Cell, LentCell, Line, bad_line, keeping_line, plain_line};
@@ -53,7 +54,7 @@ fn first_occurrence(parts: &[Seen]) -> Result<Option<&Value>, Bad>
 }
 
 fn merge_line(parts: &[Seen]) -> Result<Line, AllocError>
-    ensures { IfOk result (λ l. line_of l ≡ state_now (of_operator operator.MergeE) None parts.now no_call) }
+    ensures { IfOk result (λ l. form_line l ≡ state_now (of_operator operator.MergeE) None parts.now no_call) }
 {
     match first_occurrence(parts) {
         Err(bad) => Ok(bad_line(bad)),
@@ -62,7 +63,7 @@ fn merge_line(parts: &[Seen]) -> Result<Line, AllocError>
 }
 
 fn hold_line(cell: Option<LentCell<'_>>, parts: &[Seen]) -> Result<Line, AllocError>
-    ensures { IfOk result (λ l. line_of l ≡ state_now (of_operator operator.Hold) (earlier cell.entry) parts.now no_call) }
+    ensures { IfOk result (λ l. form_line l ≡ state_now (of_operator operator.Hold) (earlier cell.entry) parts.now no_call) }
 {
     match event_at(parts, 0) {
         Err(bad) => Ok(bad_line(bad)),
@@ -90,7 +91,7 @@ fn change_from(cell: Option<LentCell<'_>>, value: &Value) -> Result<Option<Value
 }
 
 fn changes_line(cell: Option<LentCell<'_>>, parts: &[Seen]) -> Result<Line, AllocError>
-    ensures { IfOk result (λ l. line_of l ≡ state_now (of_operator operator.Changes) (earlier cell.entry) parts.now no_call) }
+    ensures { IfOk result (λ l. form_line l ≡ state_now (of_operator operator.Changes) (earlier cell.entry) parts.now no_call) }
 {
     match plain_at(parts, 0) {
         Err(bad) => Ok(bad_line(bad)),
@@ -111,7 +112,7 @@ fn is_spent_in(cell: Option<LentCell<'_>>) -> bool
 }
 
 fn occurrence_line(spent: bool, payload: Option<&Value>) -> Result<Line, AllocError>
-    ensures { IfOk result (λ l. line_of l ≡ line_once spent (option_copied payload.entry)) }
+    ensures { IfOk result (λ l. form_line l ≡ line_once spent (option_copied payload.entry)) }
 {
     if spent {
         return Ok(plain_line(Ok(Now::Occ(None)), Some(Cell::Datum(Value::Bool(true)))));
@@ -121,7 +122,7 @@ fn occurrence_line(spent: bool, payload: Option<&Value>) -> Result<Line, AllocEr
 }
 
 fn once_line(cell: Option<LentCell<'_>>, parts: &[Seen]) -> Result<Line, AllocError>
-    ensures { IfOk result (λ l. line_of l ≡ state_now (of_operator operator.OnceE) (earlier cell.entry) parts.now no_call) }
+    ensures { IfOk result (λ l. form_line l ≡ state_now (of_operator operator.OnceE) (earlier cell.entry) parts.now no_call) }
 {
     match event_at(parts, 0) {
         Err(bad) => Ok(bad_line(bad)),
@@ -131,7 +132,7 @@ fn once_line(cell: Option<LentCell<'_>>, parts: &[Seen]) -> Result<Line, AllocEr
 
 /// A value now beside the next cell, or beside the refusal of the part that should give it.
 fn line_beside(now: Seen, next: Result<Cell, Bad>) -> Line
-    ensures { line_of result ≡ beside now (on_ok cell_of next) }
+    ensures { form_line result ≡ beside now (on_ok cell_of next) }
 {
     match next {
         Ok(cell) => plain_line(now, Some(cell)),
@@ -163,7 +164,7 @@ fn datum_next(value: Result<&Value, Bad>) -> Result<Result<Cell, Bad>, AllocErro
 }
 
 fn delay_line(cell: Option<LentCell<'_>>, parts: &[Seen]) -> Result<Line, AllocError>
-    ensures { IfOk result (λ l. line_of l ≡ state_now (of_operator operator.Delay) (earlier cell.entry) parts.now no_call) }
+    ensures { IfOk result (λ l. form_line l ≡ state_now (of_operator operator.Delay) (earlier cell.entry) parts.now no_call) }
 {
     let next = datum_next(plain_at(parts, 1))?;
     Ok(line_beside(shared_or_bad(base_at(cell, parts, 0))?, next))
@@ -190,7 +191,7 @@ fn payload_next(parts: &[Seen], at: usize) -> Result<Result<Cell, Bad>, AllocErr
 }
 
 fn delay_e_line(cell: Option<LentCell<'_>>, parts: &[Seen]) -> Result<Line, AllocError>
-    ensures { IfOk result (λ l. line_of l ≡ state_now (of_operator operator.DelayE) (earlier cell.entry) parts.now no_call) }
+    ensures { IfOk result (λ l. form_line l ≡ state_now (of_operator operator.DelayE) (earlier cell.entry) parts.now no_call) }
 {
     let next = payload_next(parts, 0)?;
     Ok(line_beside(Ok(Now::Occ(kept_occurrence(cell)?)), next))
@@ -204,7 +205,7 @@ pub fn operator_line(
     cell: Option<LentCell<'_>>,
     parts: &[Seen],
 ) -> Result<Line, AllocError>
-    ensures { IfOk result (λ l. line_of l ≡ state_now (of_operator operator) (earlier cell.entry) parts.now no_call) }
+    ensures { IfOk result (λ l. form_line l ≡ state_now (of_operator operator) (earlier cell.entry) parts.now no_call) }
 {
     match operator {
         Operator::Prim(prim) => Ok(plain_line(apply_primitive(alloc, prim, parts)?, None)),
@@ -238,7 +239,7 @@ fn refusal_of(value: Result<&Value, Bad>) -> Option<Bad>
 }
 
 fn with_refusal(refusal: Option<Bad>, line: Line) -> Line
-    ensures { line_of result ≡ refused_by refusal (line_of line) }
+    ensures { form_line result ≡ refused_by refusal (form_line line) }
 {
     Line {
         value: line.value,
@@ -254,7 +255,7 @@ pub fn feedback_line(
     init: &Seen,
     body: &Seen,
 ) -> Result<Line, AllocError>
-    ensures { IfOk result (λ l. line_of l ≡ state_now of_feedback (earlier cell.entry) (init.now ∷ body.now ∷ []) no_call) }
+    ensures { IfOk result (λ l. form_line l ≡ state_now of_feedback (earlier cell.entry) (init.now ∷ body.now ∷ []) no_call) }
 {
     let next = datum_next(plain_in(body))?;
     let line = line_beside(share_seen(body)?, next);

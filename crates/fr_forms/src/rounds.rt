@@ -1,7 +1,8 @@
+//! The rounds of a loop.
 ghost use Rattle.std.specs.Prelude.{◌≡◌, ◌<◌, ◌+◌, ◌∷◌, [], MatchOption, IfOk, length};
 ghost use Rattle.fr_value.specs.Data.{datum_of};
 ghost use Rattle.fr_meaning.specs.Words.{part, on_ok};
-ghost use Rattle.fr_meaning.specs.Evaluation.{list_in, turns_in, count_in, rounds};
+ghost use Rattle.fr_meaning.specs.Evaluation.{turns_in, rounds};
 ghost use Rattle.fr_forms.specs.Lent.{bound};
 ghost use Rattle.fr_forms.specs.Rounds.{ahead, number_of, rounds_left};
 

@@ -1,3 +1,4 @@
+//! What a form sees of the values of its parts.
 ghost use Rattle.std.specs.Prelude.{◌≡◌, IfOk};
 ghost use Rattle.std.specs.Option.{option_copied};
 ghost use Rattle.fr_meaning.specs.Words.{part, on_ok, event_of, datum_in, test_of};

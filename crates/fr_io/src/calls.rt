@@ -1,4 +1,4 @@
-// Which calls of an object in memory are to fail.
+//! Which calls of an object in memory are to fail.
 ghost use Rattle.std.specs.Prelude.{◌≡◌, ◌↔◌, IsTrue, Contains, Vec};
 ghost use Rattle.fr_io.specs.Faults.{one_more};
 

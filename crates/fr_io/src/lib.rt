@@ -1,4 +1,4 @@
-// Files that are read by position, and sinks of bytes, each with a count of its faults.
+//! Files that are read by position, and sinks of bytes, each with a count of its faults.
 #![tactic(auto)]
 
 mod calls;
@@ -13,6 +13,6 @@ mod sure;
 pub use mem_shelf::MemShelf;
 pub use mem_sink::MemSink;
 pub use real::{DirShelf, StdSink};
-pub use shelf::{ReadStop, Shelf, read_up_to};
+pub use shelf::{FileStop, Shelf, read_up_to};
 pub use sink::{Failed, Sink, write_all};
 pub use sure::{SureShelf, SureSink};

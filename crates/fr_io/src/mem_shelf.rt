@@ -1,4 +1,4 @@
-// A shelf in memory whose reads can be made to fail.
+//! A shelf in memory whose reads can be made to fail.
 ghost use Rattle.std.specs.Prelude.{◌≡◌, ◌≢◌, ◌↔◌, ◌∷◌, [], ◌≤◌, ◌+◌, ◌-◌, ℕ, List, length, min, set, option_map, IsErr, IfOk, IfSome, OnErr, OnOk, Vec};
 
 use crate::calls::Calls;

@@ -1,4 +1,4 @@
-// A sink in memory whose writes can be made to fail.
+//! A sink in memory whose writes can be made to fail.
 ghost use Rattle.std.specs.Prelude.{◌≡◌, ◌↔◌, ◌≤◌, ◌<◌, ◌-◌, [], Some, length, min, IsErr, IfOk, OnErr, OnOk, Vec, vec_capacity};
 
 use crate::calls::Calls;

@@ -1,4 +1,4 @@
-// Files in memory, found by name.
+//! Files in memory, found by name.
 ghost use Rattle.std.specs.Prelude.{◌≡◌, ◌<◌, ◌+◌, ◌-◌, ◌==◌, if◌then◌else◌, IfOk, length, take, drop, min, max, set, replicate, slice_index};
 ghost use Rattle.fr_io.specs.NamedFiles.{place, bytes_at};
 

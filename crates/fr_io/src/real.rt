@@ -1,4 +1,4 @@
-// Real files and streams, which tell nothing of content.
+//! Real files and streams, which tell nothing of content.
 ghost use Rattle.std.specs.Prelude.{◌≡◌, ◌≤◌, ◌<◌, None, length, IfOk, OnOk, OnErr};
 ghost use Rattle.std.specs.Io.{ReadsAtMost};
 ghost use Rattle.fr_io.specs.Faults.{one_more};

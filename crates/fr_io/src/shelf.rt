@@ -1,4 +1,4 @@
-// Files that are read by position.
+//! Files that are read by position.
 ghost use Rattle.std.specs.Prelude.{◌≡◌, ◌≢◌, ℕ, ◌≤◌, ◌+◌, List, [], ◌∷◌, length, take, OnOk, OnErr, IfOk, IfSome, Option};
 ghost use Rattle.fr_io.specs.Faults.{Rose, FailsAs, NoneFalls, NoneMoves};
 ghost use Rattle.fr_io.specs.Shelves.{OthersStay, Reads};
@@ -46,7 +46,7 @@ pub trait Shelf {
 
 /// Why a file couldn't be read whole.
 #[derive(Clone, Copy, Debug)]
-pub enum ReadStop {
+pub enum FileStop {
     /// There was no memory for its bytes.
     Memory(AllocError),
     /// A read failed.
@@ -57,17 +57,17 @@ pub enum ReadStop {
 /// caller sees that it is too long. It reads in pieces of at most 4,096 bytes, up to the end or to
 /// that many bytes.
 ///
-/// `ReadStop::Failed` comes only where the count of the name rose or stands at its greatest value,
+/// `FileStop::Failed` comes only where the count of the name rose or stands at its greatest value,
 /// and else all counts stay. No other file is read. After either error some pieces were read.
 pub fn read_up_to<S: Shelf>(
     alloc: Global,
     shelf: &mut S,
     name: &str,
     limit: usize,
-) -> Result<Vec<u8>, ReadStop>
+) -> Result<Vec<u8>, FileStop>
     ensures bytes { IfOk result (λ bytes. IfSome (S.holds shelf.old name.now) (λ file. bytes.items ≡ take (limit + 1) file)) }
     ensures reached { IfOk result (λ bytes. ReachesFront (S.reached shelf.old name.now) (S.reached shelf.new name.now) (length bytes.items)) }
-    ensures shelf { Reads (name.now ∷ []) (FailsAs result ReadStop.Failed)
+    ensures shelf { Reads (name.now ∷ []) (FailsAs result FileStop.Failed)
         (S.holds shelf.old) (S.holds shelf.new) (S.reached shelf.old) (S.reached shelf.new)
         (S.faults shelf.old) (S.faults shelf.new) }
 {
@@ -77,14 +77,14 @@ pub fn read_up_to<S: Shelf>(
         let room = (limit - bytes.len()).min(4095) + 1;
         let n = match shelf.read(name, bytes.len() as u64, &mut buf[..room]) {
             Ok(n) => n,
-            Err(_) => return Err(ReadStop::Failed),
+            Err(_) => return Err(FileStop::Failed),
         };
         if n == 0 {
             break;
         }
         match bytes.extend_from_slice(&buf[..n]) {
             Ok(()) => {}
-            Err(e) => return Err(ReadStop::Memory(e)),
+            Err(e) => return Err(FileStop::Memory(e)),
         }
     }
     Ok(bytes)

@@ -1,4 +1,4 @@
-// Sinks of bytes.
+//! Sinks of bytes.
 ghost use Rattle.std.specs.Prelude.{ℕ, ◌≡◌, ◌≤◌, ◌<◌, List, [], length, OnOk, OnErr, IfOk, IsErr, Option};
 ghost use Rattle.std.specs.Io.KnownBytes.{Appends, WriteAppends};
 ghost use Rattle.fr_io.specs.Faults.{Rose, Counts};

@@ -1,4 +1,4 @@
-// A shelf and a sink that never fail.
+//! A shelf and a sink that never fail.
 ghost use Rattle.std.specs.Prelude.{◌≡◌, ◌≢◌, ◌≤◌, ◌<◌, ◌-◌, ℕ, List, [], None, Some, Ok, length, min, unwrap_or, IsOk, IfOk, OnErr};
 
 use crate::named_files::NamedFiles;

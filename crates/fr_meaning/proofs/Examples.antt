@@ -76,13 +76,11 @@ delay_of_an_event n = simp (evaluates, outs)
 abbrev counter : Core
 counter = core.Feedback (int (pos 0)) (prim_of prim.Add (core.Var (record { 0 = 0 }) ∷ int (pos 1) ∷ []))
 
-feedback_begins : (n : ℕ) → (eval_to (suc (suc (suc n))) with_input counter [] kept.Nothing).value ≡ plain (value.Int (pos 1))
+feedback_counts : (n : ℕ)
+    → ((eval_to (suc (suc (suc n))) with_input counter [] kept.Nothing).value ≡ plain (value.Int (pos 1)))
+    × ((eval_to (suc (suc (suc n))) with_input counter [] (kept.Datum (value.Int (pos 1)) kept.Nothing)).value ≡ plain (value.Int (pos 2)))
 unfolding applied child datum_cell behind_datum
-feedback_begins n = simp (evaluates, outs)
-
-feedback_goes_on : (n : ℕ) → (eval_to (suc (suc (suc n))) with_input counter [] (kept.Datum (value.Int (pos 1)) kept.Nothing)).value ≡ plain (value.Int (pos 2))
-unfolding applied child datum_cell behind_datum
-feedback_goes_on n = simp (evaluates, outs)
+feedback_counts n = (simp (evaluates, outs), simp (evaluates, outs))
 
 -- a switch that chose otherwise before begins with nothing kept
 abbrev branch : Core

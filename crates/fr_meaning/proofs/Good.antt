@@ -1,5 +1,5 @@
 -- An evaluation without an error gives a value that isn't Bad.
-use Rattle.std.proofs.Common.{◌≡◌, ℕ, zero, suc, ◌+◌, List, [], ◌∷◌, ◌++◌, Bool, true, false, Option, Some, None, Result, Ok, Err, refl, length, slice_get}
+use Rattle.std.proofs.Common.{◌≡◌, ℕ, zero, suc, ◌+◌, List, [], ◌∷◌, ◌++◌, Option, Some, None, Result, Ok, Err, refl, length, slice_get}
 use Rattle.std.specs.Option.{option_or}
 use Rattle.fr_value.specs.declared.now.Bad.{Bad}
 use Rattle.fr_core.specs.declared.core_form.Core.{Core, out-Core}

@@ -18,53 +18,53 @@ use Rattle.fr_meaning.specs.Words.{Seen, Env, Done, under, part}
 use Rattle.fr_meaning.specs.Primitives.{applied}
 use Rattle.fr_meaning.specs.Cells.{Cell, child}
 use Rattle.fr_meaning.specs.States.{gives, of_operator, no_call, state_now}
-use Rattle.fr_meaning.specs.Evaluation.{world_of, Ev, Parts, parts, join_part, ended, leaf, source_seen, layer, after_parts, Choice, chosen_by, choice_kept, choice_done, test_refused, switch_done, call_done, body_for, turned, turns, turns_done, all_turns, rounds, body_with, loop_done, line_done, behind_cell, eval_to}
+use Rattle.fr_meaning.specs.Evaluation.{world_of, Ev, Parts, parts, join_part, ended, leaf, source_seen, layer, after_parts, Choice, chosen_by, choice_kept, choice_done, test_refused, switch_done, call_done, body_for, turned, turns, turns_done, all_turns, rounds, body_with, loop_done, line_done, behind_cell, eval_to, most_levels}
 use Rattle.fr_meaning.specs.Agreement.{IsSteady, IsSteadyOver}
 use Rattle.fr_meaning.specs.Dependence.{joined, own_source, sources_of, AgreeAt}
 use Rattle.fr_meaning.proofs.Begins.{choice_cases}
 use Rattle.fr_meaning.proofs.Named.{sources-opens, both_agree, always_agree, each_outer, each_body}
 
-both_true : (a b : Bool) → a && b ≡ true → (a ≡ true) × (b ≡ true)
+pub both_true : (a b : Bool) → a && b ≡ true → (a ≡ true) × (b ≡ true)
 both_true true true h = (refl, refl)
 both_true true false h = cc
 both_true false b h = cc
 
 -- an expression that names no source is none, and its parts name none
-abbrev NamesNone : FunctionSet → Core → Type 0
+abbrev pub NamesNone : FunctionSet → Core → Type 0
 NamesNone s e = names_only s e ≡ true → sources_of e ≡ []
 
-own_none : (s : FunctionSet) (l : Core-F Core) → closed_itself s l ≡ true → own_source l ≡ []
+pub own_none : (s : FunctionSet) (l : Core-F Core) → closed_itself s l ≡ true → own_source l ≡ []
 own_none s (Core-F.Source x) h = absurd (false≢true h)
 own_none s _ h = refl
 
-parts_none : (s : FunctionSet) (es : List Core) → Each (NamesNone s) es → all_true (map (names_only s) es) ≡ true → joined (map sources_of es) ≡ []
+pub parts_none : (s : FunctionSet) (es : List Core) → Each (NamesNone s) es → all_true (map (names_only s) es) ≡ true → joined (map sources_of es) ≡ []
 parts_none s [] h closed = refl
 parts_none s (e ∷ es) h closed = let t = both_true (names_only s e) (all_true (map (names_only s) es)) closed in rw (h.0 t.0, parts_none s es h.1 t.1) refl
 
-names_none : (s : FunctionSet) (e : Core) → NamesNone s e
+pub names_none : (s : FunctionSet) (e : Core) → NamesNone s e
 names_none s = by_parts (NamesNone s) (λ e h closed.
     let l = out-Core e in
     let t = both_true (closed_itself s l) (all_true (map (names_only s) (parts_in l))) (sym (names-opens s e) ∙ closed) in
     sources-opens e ∙ rw (own_none s l t.0, parts_none s (parts_in l) h t.1) refl)
 
 -- what is told of an evaluation and of parts beside what they keep
-abbrev bare : Done → Done
+abbrev pub bare : Done → Done
 bare d = record { value = d.value; kept = kept.Nothing; cost = d.cost; first = d.first }
 
-abbrev bare_parts : Parts → Parts
+abbrev pub bare_parts : Parts → Parts
 bare_parts ps = record { values = ps.values; kepts = []; cost = ps.cost; first = ps.first }
 
-operator_agree : (o : Operator) → is_prim o ≡ true → (c c' : Option Cell) (ps ps' : Parts) → bare_parts ps ≡ bare_parts ps'
+pub operator_agree : (o : Operator) → is_prim o ≡ true → (c c' : Option Cell) (ps ps' : Parts) → bare_parts ps ≡ bare_parts ps'
     → bare (line_done ps (state_now (of_operator o) c ps.values no_call)) ≡ bare (line_done ps' (state_now (of_operator o) c' ps'.values no_call))
 operator_agree (operator.Prim p) h c c' ps ps' a = ap (λ ps. bare (line_done ps (gives (applied p ps.values) None))) a
 operator_agree o h c c' ps ps' a = absurd (false≢true h)
 
 module _ (body body' : List Seen → Done) (h : (vs : List Seen) → bare (body vs) ≡ bare (body' vs)) where
-  turns_agree : (t : ℕ) (acc : Seen) (rest : List (List Seen)) → turns body t acc rest ≡ turns body' t acc rest
+  pub turns_agree : (t : ℕ) (acc : Seen) (rest : List (List Seen)) → turns body t acc rest ≡ turns body' t acc rest
   turns_agree t acc [] = refl
   turns_agree t acc (vs ∷ rest) = ap (λ (d : Done). turned t d (turns body (t + 1) d.value rest)) (h (acc ∷ vs)) ∙ ap (turned t (body' (acc ∷ vs))) (turns_agree (t + 1) (body' (acc ∷ vs)).value rest)
 
-  all_agree : (acc : Seen) (r : Result (List (List Seen)) Bad) → all_turns body acc r ≡ all_turns body' acc r
+  pub all_agree : (acc : Seen) (r : Result (List (List Seen)) Bad) → all_turns body acc r ≡ all_turns body' acc r
   all_agree acc (Err b) = refl
   all_agree acc (Ok rest) = turns_agree 0 acc rest
 
@@ -154,7 +154,7 @@ module _ (p : Program) (s : FunctionSet) (fits : FitsPure p s) (sources other : 
 
 pub named_sources_decide : (p : Program) (sources other : List Now) (e : Core) → IsPureExpr p e → AgreeAt (sources_of e) sources other → IsSteadyOver (world_of p sources) (world_of p other) e
 named_sources_decide p sources other e h named nest env k k' =
-    let same = steady p h.set h.fits sources other (2001 - nest) e (record { pure = h.pure; named = named }) env k k' in
+    let same = steady p h.set h.fits sources other (most_levels + 1 - nest) e (record { pure = h.pure; named = named }) env k k' in
     record { value = ap (λ d. d.value) same; cost = ap (λ d. d.cost) same; first = ap (λ d. d.first) same }
 
 pub pure_is_steady : (p : Program) (sources : List Now) (e : Core) → IsPureExpr p e → IsSteady (world_of p sources) e

@@ -142,9 +142,13 @@ list_in (Err b) = Err b
 list_in (Ok (Plain (value.List ds))) = Ok ds
 list_in (Ok n) = Err WrongType
 
+-- the most turns of a loop by a number
+abbrev pub most_turns : ℕ
+most_turns = 1048576
+
 -- the number of turns, or why there is none
 abbrev pub turns_in : ℤ → Result ℕ Bad
-turns_in (pos n) = if nat_le n 1048576 then Ok n else Err Range
+turns_in (pos n) = if nat_le n most_turns then Ok n else Err Range
 turns_in (negsuc n) = Err Range
 
 abbrev pub count_in : Seen → Result ℕ Bad
@@ -231,6 +235,10 @@ unfoldable pub eval_to : ℕ → World → Ev
 eval_to zero w e env k = deep
 eval_to (suc n) w e env k = layer w (eval_to n w) env k (out-Core e)
 
--- the evaluation at a nest: one whose nest is above 2,000 is too deep
+-- the most nested levels of an evaluation
+abbrev pub most_levels : ℕ
+most_levels = 2000
+
+-- the evaluation at a nest: one whose nest is above the most is too deep
 abbrev pub eval : World → ℕ → Ev
-eval w nest = eval_to (2001 - nest) w
+eval w nest = eval_to (most_levels + 1 - nest) w

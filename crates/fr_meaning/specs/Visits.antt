@@ -14,7 +14,7 @@ use Rattle.fr_core.specs.declared.program.Program.{Program}
 use Rattle.fr_meaning.specs.Words.{Seen, Env, First, Done, part}
 use Rattle.fr_meaning.specs.Cells.{Cell, child}
 use Rattle.fr_meaning.specs.States.{Begun, known, asks, StateForm, of_operator, of_handler, of_feedback, fed, no_call, handler_begin, state_now}
-use Rattle.fr_meaning.specs.Evaluation.{World, world_of, source_seen, parts, Choice, choose, choice_kept, body_for, rounds, form_cell, behind_cell, eval_to}
+use Rattle.fr_meaning.specs.Evaluation.{World, world_of, source_seen, parts, Choice, choose, choice_kept, body_for, rounds, form_cell, behind_cell, eval_to, most_levels}
 use Rattle.fr_meaning.specs.Dependence.{item_expr, with_bound}
 
 -- a variable in scope: its value, and the place that gives it
@@ -230,7 +230,7 @@ uses w v = v.waits ++ (reads_to v.level v ++ paths (inside w v))
 
 -- an item of a program's body, as number i, at nest 1
 abbrev pub item_visit : List Binding → Kept → ℕ → Item → Visit
-item_visit scope k i x = record { path = i ∷ []; level = 2000; expr = item_expr x; scope = scope; kept = child k i; price = 0; waits = [] }
+item_visit scope k i x = record { path = i ∷ []; level = most_levels; expr = item_expr x; scope = scope; kept = child k i; price = 0; waits = [] }
 
 -- the items from number i on, where a value is bound for the items behind it
 abbrev pub item_visits : World → List Binding → Kept → ℕ → List Item → List Visit

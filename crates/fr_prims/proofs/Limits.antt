@@ -2,6 +2,7 @@
 use Rattle.std.specs.Prelude.{ℕ, ◌+◌, ◌<◌, ◌≡◌, List, [], ◌∷◌, ◌++◌, Option, Some, None, Ok, Err, length, drop, get_or, slice_get, zero, suc}
 use Rattle.std.proofs.Common.{refl, sym, ◌∙◌, ap, subst, arith, add-one, drop-cons}
 use Rattle.std.proofs.lemmas.Option.{slice_get_within}
+use Rattle.std.specs.List.{flat_map}
 use Rattle.fr_value.specs.declared.value.Datum.{Datum}
 use Rattle.fr_value.specs.declared.value.Value.{Value}
 use Rattle.fr_value.specs.declared.value.Value.TheVariants as value
@@ -9,7 +10,7 @@ use Rattle.fr_value.specs.declared.now.Bad.TheVariants.{Empty, TooBig}
 use Rattle.fr_value.specs.Data.{datum_of, value_of, value_of-datum_of, AreFew, behind}
 use Rattle.fr_value.proofs.Limits.{few_passes, few_fails}
 use Rattle.fr_value.proofs.Measured.{few_parts}
-use Rattle.fr_prims.specs.Data.{list_answer, car, cdr, item_answer, joined, items_of}
+use Rattle.fr_prims.specs.Data.{list_answer, car, cdr, item_answer, items_of}
 
 -- a list within the limits is the answer
 pub answer_few : (ds : List Datum) → AreFew ds → list_answer ds ≡ Ok (value.List ds)
@@ -42,16 +43,16 @@ pub item_found : (v : Value) (o : Option Datum) → Some (datum_of v) ≡ o → 
 item_found v o h = sym (ap item_answer (sym h) ∙ ap Ok (value_of-datum_of v))
 
 -- what is left to be joined is the next list's items and what is left behind it
-pub joined_step : (vs : List Value) (i : ℕ) (v : Value) → i < length vs → v ≡ get_or vs i v → joined (drop i vs) ≡ items_of v ++ joined (drop (i + 1) vs)
-joined_step vs i v h e = rw (add-one, drop-cons vs i v h) (ap (λ w. items_of w ++ joined (drop (suc i) vs)) (sym e))
+pub joined_step : (vs : List Value) (i : ℕ) (v : Value) → i < length vs → v ≡ get_or vs i v → flat_map items_of (drop i vs) ≡ items_of v ++ flat_map items_of (drop (i + 1) vs)
+joined_step vs i v h e = rw (add-one, drop-cons vs i v h) (ap (λ w. items_of w ++ flat_map items_of (drop (suc i) vs)) (sym e))
 
 -- where all lists joined are within the limits, the last ones are
-pub joined_few : (vs : List Value) (i : ℕ) → AreFew (joined vs) → AreFew (joined (drop i vs))
+pub joined_few : (vs : List Value) (i : ℕ) → AreFew (flat_map items_of vs) → AreFew (flat_map items_of (drop i vs))
 joined_few [] zero f = f
 joined_few [] (suc i) f = f
 joined_few (v ∷ vs) zero f = f
-joined_few (v ∷ vs) (suc i) f = joined_few vs i (few_parts (items_of v) (joined vs) f).1
+joined_few (v ∷ vs) (suc i) f = joined_few vs i (few_parts (items_of v) (flat_map items_of vs) f).1
 
 -- where the last lists joined are beyond the limits, all of them are
-pub joined_big : (vs : List Value) (i : ℕ) (v : Value) (ds : List Datum) → i < length vs → v ≡ get_or vs i v → ds ≡ joined (drop (i + 1) vs) → (AreFew (items_of v ++ ds) → ⊥) → list_answer (joined vs) ≡ Err TooBig
-joined_big vs i v ds h e k n = answer_big (joined vs) (λ f. n (subst AreFew (joined_step vs i v h e ∙ ap (λ x. items_of v ++ x) (sym k)) (joined_few vs i f)))
+pub joined_big : (vs : List Value) (i : ℕ) (v : Value) (ds : List Datum) → i < length vs → v ≡ get_or vs i v → ds ≡ flat_map items_of (drop (i + 1) vs) → (AreFew (items_of v ++ ds) → ⊥) → list_answer (flat_map items_of vs) ≡ Err TooBig
+joined_big vs i v ds h e k n = answer_big (flat_map items_of vs) (λ f. n (subst AreFew (joined_step vs i v h e ∙ ap (λ x. items_of v ++ x) (sym k)) (joined_few vs i f)))

@@ -1,5 +1,6 @@
 -- The primitives on lists, and the tests of any value.
-use Rattle.std.specs.Prelude.{ℤ, pos, negsuc, Bool, true, false, not, if◌then◌else◌, List, [], ◌∷◌, ◌++◌, slice_get, Option, Some, None, Ok, Err}
+use Rattle.std.specs.Prelude.{ℤ, pos, negsuc, Bool, true, false, not, if◌then◌else◌, List, [], ◌∷◌, slice_get, Option, Some, None, Ok, Err}
+use Rattle.std.specs.List.{flat_map}
 use Rattle.fr_value.specs.Data.{value_of, few}
 use Rattle.fr_value.specs.declared.value.Datum.{Datum}
 use Rattle.fr_value.specs.declared.value.Value.{Value}
@@ -81,11 +82,6 @@ abbrev pub items_of : Value → List Datum
 items_of (value.List ds) = ds
 items_of v = []
 
--- the items of all lists
-abbrev pub joined : List Value → List Datum
-joined [] = []
-joined (v ∷ vs) = items_of v ++ joined vs
-
 -- lists joined
 abbrev pub appended : List Value → Answer
-appended vs = typed is_list vs (list_answer (joined vs))
+appended vs = typed is_list vs (list_answer (flat_map items_of vs))

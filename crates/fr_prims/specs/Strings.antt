@@ -1,5 +1,6 @@
 -- The primitives on strings and symbols.
-use Rattle.std.specs.Prelude.{ℕ, Bool, true, ◌&&◌, if◌then◌else◌, List, [], ◌∷◌, ◌++◌, Ok, Err}
+use Rattle.std.specs.Prelude.{ℕ, Bool, true, ◌&&◌, if◌then◌else◌, List, [], ◌∷◌, Ok, Err}
+use Rattle.std.specs.List.{flat_map}
 use Rattle.fr_value.specs.Bytes.{is_short}
 use Rattle.fr_value.specs.Same.{is_same}
 use Rattle.fr_value.specs.declared.value.Value.{Value}
@@ -23,18 +24,13 @@ abbrev pub text_of : Value → List ℕ
 text_of (value.Str s) = s
 text_of v = []
 
--- the bytes of all strings
-abbrev pub joined_text : List Value → List ℕ
-joined_text [] = []
-joined_text (v ∷ vs) = text_of v ++ joined_text vs
-
 -- a string as an answer, where it is short
 abbrev pub string_answer : List ℕ → Answer
 string_answer s = if is_short s then Ok (value.Str s) else Err TooBig
 
 -- strings joined
 abbrev pub strings_appended : List Value → Answer
-strings_appended vs = typed is_string vs (string_answer (joined_text vs))
+strings_appended vs = typed is_string vs (string_answer (flat_map text_of vs))
 
 -- all of these are the same as one
 abbrev pub all_same : Value → List Value → Bool

@@ -1,5 +1,5 @@
 ghost use Rattle.std.specs.Prelude.{◌≡◌};
-ghost use Rattle.fr_prims.specs.Integers.{number, neighbours, chosen, compared, extreme, tested};
+ghost use Rattle.fr_prims.specs.Integers.{neighbours, chosen, compared, extreme, tested};
 ghost use Rattle.fr_prims.specs.Choices.{stands_of, sign_of};
 
 use crate::kinds::{Answer, Kind, all_of, number_in};

@@ -1,4 +1,4 @@
-ghost use Rattle.std.specs.Prelude.{◌≡◌, not, []};
+ghost use Rattle.std.specs.Prelude.{◌≡◌, not};
 ghost use Rattle.fr_prims.specs.Integers.{all_pass, number, one, two, truth};
 ghost use Rattle.fr_prims.specs.Choices.{kind_of};
 ghost use Rattle.fr_prims.specs.Data.{is_true, is_null, is_pair};

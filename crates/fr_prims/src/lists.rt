@@ -1,9 +1,10 @@
 ghost use Rattle.std.specs.Prelude.{◌≡◌, ◌++◌, ◌∷◌, IfOk, Ok, Err, pos, length, reverse, slice_get};
+ghost use Rattle.std.specs.List.{flat_map};
 ghost use Rattle.fr_value.specs.Data.{data_of, datum_of, AreFew};
 ghost use Rattle.fr_value.specs.declared.list.ListRefusal.TheVariants as ListRefusal;
 ghost use Rattle.fr_value.specs.declared.value.Value.TheVariants as value;
 ghost use Rattle.fr_prims.specs.Integers.{one, two, on_integer};
-ghost use Rattle.fr_prims.specs.Data.{list_answer, on_list, car as car_of, cdr as cdr_of, list_ref, item_answer, joined, items_of, appended};
+ghost use Rattle.fr_prims.specs.Data.{list_answer, on_list, car as car_of, cdr as cdr_of, list_ref, item_answer, items_of, appended};
 
 use crate::kinds::{Answer, Kind, all_of};
 use fr_value::{Bad, List, ListRefusal, Value};
@@ -130,7 +131,7 @@ fn kept(list: List) -> Answer
 
 /// The lists joined, the last two first, so that the items of the last are shared and not copied.
 fn join_lists(alloc: Global, lists: &[Value]) -> Result<Answer, AllocError>
-    ensures { IfOk result (λ r. r ≡ list_answer (joined lists.now)) }
+    ensures { IfOk result (λ r. r ≡ list_answer (flat_map items_of lists.now)) }
 {
     let mut all = List::empty();
     let mut at = lists.len();

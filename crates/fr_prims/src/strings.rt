@@ -2,10 +2,11 @@ ghost use Rattle.std.specs.Prelude.{◌≡◌, ◌++◌, ◌+◌, IfOk, OnOk, Ok
 ghost use Rattle.std.specs.Fmt.{signed_decimal};
 ghost use Rattle.std.specs.Str.{chars};
 ghost use Rattle.std.specs.String.{string_bytes};
+ghost use Rattle.std.specs.List.{flat_map};
 ghost use Rattle.fr_value.specs.Bytes.{is_short};
 ghost use Rattle.fr_value.specs.declared.value.Value.TheVariants as value;
 ghost use Rattle.fr_prims.specs.Integers.{one, on_integer};
-ghost use Rattle.fr_prims.specs.Strings.{on_string, on_symbol, text_of, joined_text, string_answer, strings_appended, all_same, strings_equal};
+ghost use Rattle.fr_prims.specs.Strings.{on_string, on_symbol, text_of, string_answer, strings_appended, all_same, strings_equal};
 
 use crate::kinds::{Answer, Kind, all_of};
 use fr_value::{Bad, MAX_TEXT_BYTES, Text, Value, same};
@@ -44,7 +45,7 @@ fn text_len(value: &Value) -> usize
 ///
 /// It is asked before any byte is copied, so that no more memory is taken than a string may have.
 fn are_short(strings: &[Value]) -> bool
-    ensures { result ≡ is_short (joined_text strings.now) }
+    ensures { result ≡ is_short (flat_map text_of strings.now) }
 {
     let mut size: usize = 0;
     for value in strings {
@@ -59,7 +60,7 @@ fn are_short(strings: &[Value]) -> bool
 
 /// Appends each string.
 fn push_strings(text: &mut String, strings: &[Value]) -> Result<(), AllocError>
-    ensures { OnOk result (string_bytes text.new ≡ string_bytes text.old ++ joined_text strings.now) }
+    ensures { OnOk result (string_bytes text.new ≡ string_bytes text.old ++ flat_map text_of strings.now) }
 {
     for value in strings {
         if let Value::Str(part) = value {
@@ -70,7 +71,7 @@ fn push_strings(text: &mut String, strings: &[Value]) -> Result<(), AllocError>
 }
 
 fn join_strings(alloc: Global, strings: &[Value]) -> Result<Answer, AllocError>
-    ensures { IfOk result (λ r. r ≡ string_answer (joined_text strings.now)) }
+    ensures { IfOk result (λ r. r ≡ string_answer (flat_map text_of strings.now)) }
 {
     if !are_short(strings) {
         return Ok(Err(Bad::TooBig));

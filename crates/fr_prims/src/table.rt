@@ -1,3 +1,4 @@
+//! The table of primitives: what each gives for its arguments.
 ghost use Rattle.std.specs.Prelude.{◌≡◌, IfOk, IfErr, Ok, Err};
 ghost use Rattle.fr_value.specs.declared.now.Bad.{Bad as KindOfBad};
 ghost use Rattle.fr_prims.specs.declared.table.PrimStop.TheVariants as PrimStop;

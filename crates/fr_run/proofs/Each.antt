@@ -15,7 +15,7 @@ use Rattle.fr_meaning.specs.Cells.{child}
 use Rattle.fr_meaning.specs.Texts.{Shown, next_each}
 use Rattle.fr_meaning.specs.Afresh.{State, Instant, items, instant, latest, sources_at}
 use Rattle.fr_show.specs.Output.{shows_of}
-use Rattle.fr_run.specs.Standing.{Standing, IsBehind, seen_of}
+use Rattle.fr_run.specs.Standing.{Standing, IsBehind}
 use Rattle.fr_run.specs.Written.{AreShowsOf, Wrote}
 
 items_shown : (ev : Ev) (env : Env) (k : Kept) (i : ℕ) (is : List Item) → length (items ev env k i is).shown ≡ length (shows_of is)

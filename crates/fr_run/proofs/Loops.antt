@@ -11,7 +11,7 @@ use Rattle.fr_meaning.specs.Texts.{Shown, instant_text, next_each}
 use Rattle.fr_meaning.specs.Afresh.{State, handed_on, instant}
 use Rattle.fr_meaning.specs.Runs.{runs_from}
 use Rattle.fr_show.specs.declared.stop.Stop.{Stop}
-use Rattle.fr_show.specs.declared.stop.Stop.TheVariants.{Script, Evaluation, Program as Refused, Read, Write, Memory}
+use Rattle.fr_show.specs.declared.stop.Stop.TheVariants.{Read, Write, Memory}
 use Rattle.fr_show.specs.Course.{Course, all_bytes, after, stopped}
 use Rattle.fr_show.specs.Ends.{EndsThere, StopSays, extent_of, first_text}
 use Rattle.fr_show.specs.Output.{course_of, script_end}

@@ -8,8 +8,8 @@ use Rattle.fr_meaning.specs.Texts.{Shown, instant_text, next_each}
 use Rattle.fr_meaning.specs.Afresh.{State, Instant, handed_on, instant}
 use Rattle.fr_meaning.specs.Runs.{unless_erred, runs_from}
 use Rattle.fr_show.specs.declared.stop.Stop.{Stop}
-use Rattle.fr_show.specs.declared.stop.Stop.TheVariants.{Script, Evaluation, Program as Refused, Read, Write, Memory}
-use Rattle.fr_show.specs.Course.{Course, all_bytes, after, stopped}
+use Rattle.fr_show.specs.declared.stop.Stop.TheVariants.{Evaluation, Write, Memory}
+use Rattle.fr_show.specs.Course.{Course, all_bytes, after}
 use Rattle.fr_show.specs.Ends.{StopSays}
 use Rattle.fr_show.specs.Output.{unless_errs, course_of}
 use Rattle.fr_show.proofs.Writing.{some_front}

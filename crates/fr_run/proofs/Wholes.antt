@@ -16,8 +16,8 @@ use Rattle.fr_show.specs.declared.stop.Stop.{Stop}
 use Rattle.fr_show.specs.declared.stop.Stop.TheVariants.{Program as Refused, Read}
 use Rattle.fr_show.specs.Accepted.{Verdict, OnJudged, OnEachJudged}
 use Rattle.fr_show.specs.Stops.{Explains, unaccepted}
-use Rattle.fr_show.specs.Course.{Course, all_bytes, after, stopped}
-use Rattle.fr_show.specs.Ends.{Extent, own_end, whole_texts, first_text, first_bytes, extent_of, WritesTo, EndsThere, StopSays, SaysOn, Begins}
+use Rattle.fr_show.specs.Course.{Course, all_bytes, after}
+use Rattle.fr_show.specs.Ends.{Extent, first_text, extent_of, WritesTo, EndsThere, StopSays, SaysOn, Begins}
 use Rattle.fr_show.specs.Output.{shows_of, unless_errs, course_of, script_end, program_course, course_over}
 use Rattle.fr_show.proofs.Courses.{appends_nothing, appends_one, ends_after, writes_after, nothing_whole}
 use Rattle.fr_show.proofs.Judged.{on_each, says_judged}

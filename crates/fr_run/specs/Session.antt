@@ -1,5 +1,5 @@
 -- What a session says of courses that may be unknown.
-use Rattle.std.specs.Prelude.{ℕ, ◌≡◌, true, List, length, Option, Some, IfSome}
+use Rattle.std.specs.Prelude.{ℕ, true, List, length, Option, Some, IfSome}
 use Rattle.fr_io.specs.Files.{ReachesFront}
 use Rattle.fr_io.specs.Shelves.{Holds, Reached}
 use Rattle.fr_core.specs.declared.program.Program.{Program}

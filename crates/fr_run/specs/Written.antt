@@ -7,7 +7,7 @@ use Rattle.fr_core.specs.declared.program.Program.{Program}
 use Rattle.fr_script.specs.Sources.{Named}
 use Rattle.fr_script.specs.Instants.{bad_line}
 use Rattle.fr_meaning.specs.Texts.{Shown, instant_text, next_each}
-use Rattle.fr_meaning.specs.Afresh.{State, Instant, instant}
+use Rattle.fr_meaning.specs.Afresh.{State, Instant}
 use Rattle.fr_meaning.specs.Runs.{runs_from}
 use Rattle.fr_show.specs.declared.stop.Stop.{Stop}
 use Rattle.fr_show.specs.declared.stop.Stop.TheVariants as stop

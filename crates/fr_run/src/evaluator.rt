@@ -28,9 +28,11 @@ pub trait Evaluator: Drop {
     /// errs, and is never Ok there; with `Memory` where there is no memory. After an error nothing is left to go on with.
     fn start(alloc: Global, program: Program) -> Result<Self, InstantStop>
         requires well_formed { IsWellFormed program }
-        ensures ok { IfOk result (λ e. let n = instant_after program (beginning program) first_instant in
+        ensures ok { IfOk result (λ e.
+            let n = instant_after program (beginning program) first_instant in
             IsBehind (stands e) program n) }
-        ensures err { IfErr result (λ stop. let n = instant_after program (beginning program) first_instant in
+        ensures err { IfErr result (λ stop.
+            let n = instant_after program (beginning program) first_instant in
             IsCause stop n) };
 
     /// Evaluates the next instant, over what the last one handed on. Its time is at most 9,223,372,036,854,775,807, the

@@ -1,3 +1,4 @@
+//! The run of a program over a script, by an evaluator of instants.
 ghost use Rattle.std.specs.Prelude.{◌≡◌, ◌≢◌, ◌≤◌, List, ℕ, [], ◌∷◌, true, length, Option, None, IfOk, IfErr, OnOk, IsErrOf};
 ghost use Rattle.std.specs.Io.KnownBytes.{Appends};
 ghost use Rattle.fr_io.specs.Faults.{FailsAs, Counts};
@@ -16,7 +17,7 @@ ghost use Rattle.fr_run.specs.Session.{OnAhead, OnScript, OnProgram, OnText, Tex
 use crate::evaluator::{Evaluator, InstantStop};
 use crate::turns::{SCRIPT_LIMIT, next_instant, reader_of};
 use fr_core::{Inputs, Program};
-use fr_io::{ReadStop, Shelf, Sink, read_up_to, write_all};
+use fr_io::{FileStop, Shelf, Sink, read_up_to, write_all};
 use fr_script::ScriptReader;
 use fr_show::{Shows, Stop, accept};
 use std::alloc::Global;
@@ -31,7 +32,8 @@ fn write_text<E: Evaluator, O: Sink>(
     requires one_each { length (E.stands evaluator.now).shown ≡ length shows.old }
     ensures ok { OnOk result (let seen = seen_of (E.stands evaluator.now) in
         Appends (O.written out.old) (O.written out.new) (instant_text time shows.old seen)) }
-    ensures after { OnOk result (shows.new ≡ next_each shows.old (seen_of (E.stands evaluator.now))) }
+    ensures after { OnOk result (shows.new ≡
+        next_each shows.old (seen_of (E.stands evaluator.now))) }
     ensures err { IfErr result (λ stop. let seen = seen_of (E.stands evaluator.now) in
         CutShort stop (instant_text time shows.old seen) (O.written out.old) (O.written out.new)) }
     ensures no_read { IsErrOf result Stop.Read → ⊥ }
@@ -68,7 +70,8 @@ fn begin<E: Evaluator, O: Sink>(
 ) -> Result<E, Stop>
     requires well_formed { IsWellFormed program }
     requires one_each { AreShowsOf shows.old program }
-    ensures ok { IfOk result (λ e. let n = instant_after program (beginning program) first_instant in
+    ensures ok { IfOk result (λ e.
+        let n = instant_after program (beginning program) first_instant in
         Wrote (E.stands e) program n 0 shows.old shows.new (O.written out.old) (O.written out.new)) }
     ensures err { IfErr result (λ stop. StopsIn stop program (beginning program) first_instant
         shows.old (O.written out.old) (O.written out.new)) }
@@ -157,7 +160,8 @@ fn run_script<E: Evaluator, S: Shelf, O: Sink>(
     requires one_each { AreShowsOf shows.old (E.stands evaluator).program }
     ensures ok { OnOk result (OnScript (S.holds shelf.old script.now) (E.stands evaluator) shows.old
         (λ c. EndsThere None c (O.written out.old) (O.written out.new))) }
-    ensures err { IfErr result (λ stop. OnScript (S.holds shelf.old script.now) (E.stands evaluator) shows.old
+    ensures err { IfErr result (λ stop. OnScript (S.holds shelf.old script.now)
+        (E.stands evaluator) shows.old
         (λ c. StopSays stop c (O.written out.old) (O.written out.new))) }
     ensures to_end { OnOk result (IsReadToEnd script.now (S.holds shelf.old)
         (S.reached shelf.old) (S.reached shelf.new)) }
@@ -169,8 +173,8 @@ fn run_script<E: Evaluator, S: Shelf, O: Sink>(
 {
     let bytes = match read_up_to(alloc, shelf, script, SCRIPT_LIMIT) {
         Ok(bytes) => bytes,
-        Err(ReadStop::Memory(e)) => return Err(Stop::Memory(e)),
-        Err(ReadStop::Failed) => return Err(Stop::Read),
+        Err(FileStop::Memory(e)) => return Err(Stop::Memory(e)),
+        Err(FileStop::Failed) => return Err(Stop::Read),
     };
     let mut reader = match reader_of(alloc, evaluator.program(), &bytes) {
         Ok(reader) => reader,

@@ -19,7 +19,8 @@ pub(crate) fn reader_of(
     program: &Program,
     bytes: &[u8],
 ) -> Result<ScriptReader, AllocError>
-    ensures file { IfOk result (λ reader. (file : List ℕ) → bytes.now ≡ script_front file → IsFed reader (sources program.now) file 0) }
+    ensures file { IfOk result (λ reader. (file : List ℕ) → bytes.now ≡ script_front file →
+        IsFed reader (sources program.now) file 0) }
     ensures fed { IfOk result (λ reader. IsFed reader (sources program.now) bytes.now 0) }
 {
     let mut reader = ScriptReader::new(alloc, program)?;
@@ -32,8 +33,10 @@ pub(crate) fn reader_of(
 
 /// Gives the script's next instant, or none at its end.
 pub(crate) fn next_instant(reader: &mut ScriptReader) -> Result<Option<Inputs>, Stop>
-    ensures ok { IfOk result (λ next. (ss : List Named) (script : List ℕ) (given : ℕ) → IsFed reader.old ss script given → Gives next reader.new ss script given) }
-    ensures err { IfErr result (λ stop. (ss : List Named) (script : List ℕ) (given : ℕ) → IsFed reader.old ss script given → EndsAt stop ss script given) }
+    ensures ok { IfOk result (λ next. (ss : List Named) (script : List ℕ) (given : ℕ) →
+        IsFed reader.old ss script given → Gives next reader.new ss script given) }
+    ensures err { IfErr result (λ stop. (ss : List Named) (script : List ℕ) (given : ℕ) →
+        IsFed reader.old ss script given → EndsAt stop ss script given) }
     ensures falls { IfOk result (λ next. IfSome next (λ _. left reader.new < left reader.old)) }
     ensures no_read { IsErrOf result Stop.Read → ⊥ }
     ensures no_write { IsErrOf result Stop.Write → ⊥ }

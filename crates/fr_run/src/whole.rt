@@ -46,8 +46,10 @@ fn stand_behind(
     alloc: Global,
     evaluated: Result<Afresh, AfreshStop>,
 ) -> Result<WholeEvaluator, InstantStop>
-    ensures ok { IfOk result (λ e. (p : Program) (n : Instant) → IfOk evaluated (λ a. Leaves a p n) → IsBehind (standing_of e) p n) }
-    ensures err { IfErr result (λ stop. (time : ℕ) (n : Instant) → IfErr evaluated (λ s. ErrsBy s time n) → IsCause stop n) }
+    ensures ok { IfOk result (λ e. (p : Program) (n : Instant) →
+        IfOk evaluated (λ a. Leaves a p n) → IsBehind (standing_of e) p n) }
+    ensures err { IfErr result (λ stop. (time : ℕ) (n : Instant) →
+        IfErr evaluated (λ s. ErrsBy s time n) → IsCause stop n) }
 {
     let afresh = match evaluated {
         Ok(afresh) => afresh,

@@ -5,7 +5,7 @@ use Rattle.std.proofs.lemmas.List.{append-nil, map-append, length-map, same_from
 use Rattle.std.proofs.lemmas.Slice.Eq.{bytes_eq-Decides}
 use Rattle.fr_value.specs.declared.ids.VarId.{VarId}
 use Rattle.fr_scope.specs.declared.scope.Variable.{Variable}
-use Rattle.fr_scope.specs.Meanings.{Binder, binds, innermost}
+use Rattle.fr_scope.specs.Meanings.{Binder, binds, innermost, most_numbered}
 use Rattle.fr_scope.specs.Hiding.{binders, variable_in, hides, hidden_behind, IsKept}
 
 -- the innermost of one variable more, where the others give o
@@ -39,7 +39,7 @@ hidden_behind-push outer (a ∷ bs) b =
     (hidden_behind-push (outer ++ a ∷ []) bs b ∙ ap (λ (bs' : List Binder). hidden_behind (outer ++ a ∷ []) bs ++ hides bs' b ∷ []) (append_assoc outer (a ∷ []) bs))
 
 -- a variable more
-pub one_more : (vs : List Variable) (v : Variable) (look_up after : List ℕ → Option VarId) → IsKept vs look_up → length (binders vs) < 4294967295 → v.hidden ≡ hides (binders vs) v.name
+pub one_more : (vs : List Variable) (v : Variable) (look_up after : List ℕ → Option VarId) → IsKept vs look_up → length (binders vs) < most_numbered → v.hidden ≡ hides (binders vs) v.name
     → ((name : List ℕ) → after name ≡ (if binds name v.name then Some (record { 0 = length (binders vs) }) else look_up name)) → IsKept (vs ++ v ∷ []) after
 one_more vs v look_up after kept few hidden found = record {
   few = let h = few in rw length-append (omega (arith, simp length-map at h));

@@ -3,7 +3,7 @@ use Rattle.std.specs.Prelude.{ℕ, ◌≡◌, ◌≤◌, List, [], ◌∷◌, �
 use Rattle.std.specs.Option.{option_map}
 use Rattle.fr_value.specs.declared.ids.VarId.{VarId}
 use Rattle.fr_scope.specs.declared.scope.Variable.{Variable}
-use Rattle.fr_scope.specs.Meanings.{Binder, innermost}
+use Rattle.fr_scope.specs.Meanings.{Binder, innermost, most_numbered}
 
 -- what binds each of these variables
 abbrev pub binders : List Variable → List Binder
@@ -25,6 +25,6 @@ hidden_behind outer (b ∷ bs) = hides outer b ∷ hidden_behind (outer ++ b ∷
 
 -- each variable keeps the one that it hides, the look-up finds each name's innermost variable, and the variables' numbers fit
 pub record IsKept (vs : List Variable) (look_up : List ℕ → Option VarId) : Type 0 where
-  pub few : length vs ≤ 4294967295
+  pub few : length vs ≤ most_numbered
   pub hidden : map (λ v. v.hidden) vs ≡ hidden_behind [] (binders vs)
   pub found : (name : List ℕ) → look_up name ≡ variable_in (binders vs) name

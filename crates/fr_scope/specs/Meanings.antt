@@ -11,6 +11,10 @@ use Rattle.fr_syntax.specs.Outlines.{Global, outline_of}
 use Rattle.fr_scope.specs.declared.meaning.Meaning.{Meaning}
 use Rattle.fr_scope.specs.declared.meaning.Meaning.TheVariants as meaning
 
+-- the most variables in scope; there are fewer sources and fewer functions than this
+abbrev pub most_numbered : ℕ
+most_numbered = 4294967295
+
 -- what binds a variable: a name, or none where the variable has no name
 abbrev pub Binder : Type 0
 Binder = Option (List ℕ)

@@ -1,10 +1,11 @@
-ghost use Rattle.std.specs.Prelude.{◌≡◌, ◌+◌, ◌<◌, ◌≤◌, ◌++◌, Some, None, if◌then◌else◌, ℕ, List, map, IfOk, OnOk, length};
+//! The global names that forms give.
+ghost use Rattle.std.specs.Prelude.{◌≡◌, ◌+◌, ◌<◌, ◌≤◌, Some, None, if◌then◌else◌, ℕ, List, map, IfOk, OnOk, length};
 ghost use Rattle.std.specs.Option.{option_or};
 ghost use Rattle.std.specs.HashMap.{get_by_text};
 ghost use Rattle.std.specs.Str.{bytes_eq};
 ghost use Rattle.fr_value.specs.Data.{data_of};
 ghost use Rattle.fr_scope.specs.Given.{global_of};
-ghost use Rattle.fr_scope.specs.Meanings.{built_in, functions_behind, given_as, global, globals_in, meaning_of, sources_behind};
+ghost use Rattle.fr_scope.specs.Meanings.{built_in, functions_behind, given_as, global, globals_in, meaning_of, sources_behind, most_numbered};
 
 use crate::meaning::Meaning;
 use crate::scope::Scope;
@@ -48,7 +49,7 @@ impl Model for Globals {
 impl Globals {
     /// The global names of these forms, well formed or not. It makes one more owner of each name, and a copy of its text.
     pub fn of(alloc: Global, forms: &[Value]) -> Result<Globals, AllocError>
-        requires { length forms.now < 4294967295 }
+        requires { length forms.now < most_numbered }
         ensures { IfOk result (λ g. g ≡ globals_in (data_of forms.now)) }
     {
         let names = names_of(alloc, forms)?;
@@ -88,7 +89,7 @@ fn names_of(alloc: Global, forms: &[Value]) -> Result<Vec<Given>, AllocError>
 
 /// What the first of these that gives a name makes of it. Sources count from 1, and functions from 0.
 fn meanings_of(alloc: Global, names: &[Given]) -> Result<HashMap<String, Meaning>, AllocError>
-    requires { length names.now < 4294967295 }
+    requires { length names.now < most_numbered }
     ensures { IfOk result (λ m. (name : List ℕ) → get_by_text m name ≡ global name 1 0 (map global_of names.now)) }
 {
     let mut meanings = HashMap::new(alloc);
@@ -131,7 +132,7 @@ fn given_as(sort: Sort, sources: u32, functions: u32) -> Meaning
 
 /// The number of sources behind a name of this sort.
 fn sources_behind(sort: Sort, sources: u32) -> u32
-    requires { sources < 4294967295 }
+    requires { sources < most_numbered }
     ensures counted { result ≡ sources_behind sort sources }
     ensures at_most { result ≤ sources + 1 }
 {
@@ -143,7 +144,7 @@ fn sources_behind(sort: Sort, sources: u32) -> u32
 
 /// The number of functions behind a name of this sort.
 fn functions_behind(sort: Sort, functions: u32) -> u32
-    requires { functions < 4294967295 }
+    requires { functions < most_numbered }
     ensures counted { result ≡ functions_behind sort functions }
     ensures at_most { result ≤ functions + 1 }
 {

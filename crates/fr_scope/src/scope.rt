@@ -1,8 +1,9 @@
-ghost use Rattle.std.specs.Prelude.{◌≡◌, ◌<◌, ◌-◌, ◌++◌, ◌∷◌, [], Some, None, IsSome, if◌then◌else◌, ℕ, List, length, take, IfOk, OnOk, OnErr};
+//! The variables in scope at a place.
+ghost use Rattle.std.specs.Prelude.{◌≡◌, ◌<◌, ◌-◌, ◌++◌, ◌∷◌, [], Some, None, IsSome, if◌then◌else◌, ℕ, List, length, take, OnOk, OnErr};
 ghost use Rattle.std.specs.Option.{option_map};
 ghost use Rattle.std.specs.HashMap.{get_by_text};
 ghost use Rattle.std.specs.Str.{bytes_eq};
-ghost use Rattle.fr_scope.specs.Meanings.{binds, innermost};
+ghost use Rattle.fr_scope.specs.Meanings.{binds, innermost, most_numbered};
 
 use fr_value::{Symbol, VarId};
 use std::alloc::{AllocError, Global};
@@ -60,7 +61,7 @@ impl Scope {
     /// One more variable, the innermost, of this name. It makes one more owner of the name, and a copy of its text. Where memory
     /// is wanting nothing changes.
     pub fn push(&mut self, name: &Symbol) -> Result<(), AllocError>
-        requires { length self.old < 4294967295 }
+        requires { length self.old < most_numbered }
         ensures pushed { OnOk result (self.new ≡ self.old ++ Some name.now ∷ []) }
         ensures unchanged { OnErr result (self.new ≡ self.old) }
     {
@@ -79,7 +80,7 @@ impl Scope {
 
     /// One more variable, the innermost, without a name. Where memory is wanting nothing changes.
     pub fn push_unnamed(&mut self) -> Result<(), AllocError>
-        requires { length self.old < 4294967295 }
+        requires { length self.old < most_numbered }
         ensures pushed { OnOk result (self.new ≡ self.old ++ None ∷ []) }
         ensures unchanged { OnErr result (self.new ≡ self.old) }
     {

@@ -1,3 +1,4 @@
+//! Judges texts: the program that a text is, or why it is refused.
 ghost use Rattle.std.specs.Prelude.{◌≡◌, ◌≢◌, IfOk, IfErr};
 ghost use Rattle.fr_value.specs.Data.{data_of};
 ghost use Rattle.fr_core.specs.WellFormed.{IsWellFormed};
@@ -64,7 +65,7 @@ pub fn accept(alloc: Global, bytes: &[u8]) -> Result<Program, AcceptStop>
         Ok(forms) => forms,
         Err(stop) => return Err(stop),
     };
-    program_of(alloc, bytes, &forms)
+    program_from(alloc, bytes, &forms)
 }
 
 /// The forms that a text of at most 1,048,576 bytes reads as, or why it is refused before its forms are looked at.
@@ -84,7 +85,7 @@ pub fn read_forms(alloc: Global, bytes: &[u8]) -> Result<Vec<Value>, AcceptStop>
 }
 
 /// The program that the forms of a text are.
-pub fn program_of(alloc: Global, bytes: &[u8], forms: &[Value]) -> Result<Program, AcceptStop>
+pub fn program_from(alloc: Global, bytes: &[u8], forms: &[Value]) -> Result<Program, AcceptStop>
     requires read { IsForms bytes.now (data_of forms.now) }
     requires small { AreSmall (data_of forms.now) }
     ensures accepted { IfOk result (IsProgram bytes.now) }

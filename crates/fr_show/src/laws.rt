@@ -10,5 +10,6 @@ pub fn verdict_is_one()
 /// The first 1,048,577 bytes of a text decide how it is judged, so nothing behind them has to be read.
 #[tactic(auto, using(crate::proofs::Verdicts::judged_front))]
 pub fn front_decides()
-    ensures { (bytes : List ℕ) (v : Verdict) → IsVerdict (program_front bytes) v → IsVerdict bytes v }
+    ensures { (bytes : List ℕ) (v : Verdict) → IsVerdict (program_front bytes) v →
+        IsVerdict bytes v }
 {}

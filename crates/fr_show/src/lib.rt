@@ -6,7 +6,7 @@ mod laws;
 mod shows;
 mod stop;
 
-pub use acceptance::{AcceptStop, PROGRAM_LIMIT, accept, program_of, read_forms};
+pub use acceptance::{AcceptStop, PROGRAM_LIMIT, accept, program_from, read_forms};
 pub use laws::{front_decides, verdict_is_one};
 pub use shows::Shows;
 pub use stop::{ProgramKind, Stop};

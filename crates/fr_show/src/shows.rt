@@ -1,6 +1,6 @@
 //! The shows of a program: what an instant prints of their values, and the last plain text of each.
 
-ghost use Rattle.std.specs.Prelude.{◌≡◌, ◌<◌, ◌++◌, ◌∷◌, [], List, ℕ, None, Some, Ok, length, map, IfOk, OnOk, OnErr, MatchOption, IsTrue, ◌↔◌};
+ghost use Rattle.std.specs.Prelude.{◌≡◌, ◌<◌, ◌++◌, ◌∷◌, [], List, ℕ, None, Some, Ok, length, map, IfOk, OnOk, OnErr, MatchOption};
 ghost use Rattle.fr_meaning.specs.Texts.{line, value_text, unless_last, shown_text, instant_text, next_each};
 ghost use Rattle.fr_show.specs.Output.{shows_of};
 ghost use Rattle.fr_show.specs.Shows.{plain_text, kept, kept_each, last_at};
@@ -106,7 +106,8 @@ fn push_unless_last(
     show: &Show,
     text: &Text,
 ) -> Result<(), AllocError>
-    ensures { OnOk result (out.new.items ≡ out.old.items ++ unless_last show.now.last text.now (line time show.now.name text.now)) }
+    ensures { OnOk result (out.new.items ≡ out.old.items ++
+        unless_last show.now.last text.now (line time show.now.name text.now)) }
 {
     match &show.last {
         Some(last) => {
@@ -129,7 +130,9 @@ fn push_plain(
     value: &Value,
 ) -> Result<Option<Text>, AllocError>
     ensures text { IfOk result (λ t. t ≡ Some (value_text value.now)) }
-    ensures printed { OnOk result (out.new.items ≡ out.old.items ++ unless_last show.now.last (value_text value.now) (line time show.now.name (value_text value.now))) }
+    ensures printed { OnOk result (out.new.items ≡ out.old.items ++
+        unless_last show.now.last (value_text value.now)
+        (line time show.now.name (value_text value.now))) }
 {
     let text = Text::of(alloc, value)?;
     push_unless_last(out, time, show, &text)?;
@@ -145,7 +148,8 @@ fn push_occurrence(
     payload: &Value,
 ) -> Result<Option<Text>, AllocError>
     ensures text { IfOk result (λ t. t ≡ None) }
-    ensures printed { OnOk result (out.new.items ≡ out.old.items ++ line time name.now (value_text payload.now)) }
+    ensures printed { OnOk result (out.new.items ≡ out.old.items ++
+        line time name.now (value_text payload.now)) }
 {
     let text = Text::of(alloc, payload)?;
     push_line(out, time, name, &text)?;
@@ -161,7 +165,8 @@ fn push_show(
     value: &Now,
 ) -> Result<Option<Text>, AllocError>
     ensures text { IfOk result (λ t. t ≡ plain_text value.now) }
-    ensures printed { OnOk result (out.new.items ≡ out.old.items ++ shown_text time show.now (Ok value.now)) }
+    ensures printed { OnOk result (out.new.items ≡ out.old.items ++
+        shown_text time show.now (Ok value.now)) }
 {
     match value {
         Now::Plain(v) => push_plain(alloc, out, time, show, v),
@@ -178,7 +183,8 @@ fn print_shows(
     values: &[Now],
 ) -> Result<Printed, AllocError>
     requires one_each { length values.now ≡ length shows.now }
-    ensures bytes { IfOk result (λ p. p.bytes.items ≡ instant_text time shows.now (map (λ v. Ok v) values.now)) }
+    ensures bytes { IfOk result (λ p. p.bytes.items ≡
+        instant_text time shows.now (map (λ v. Ok v) values.now)) }
     ensures texts { IfOk result (λ p. p.texts.items ≡ map plain_text values.now) }
 {
     let mut bytes = Vec::new(alloc);
@@ -266,7 +272,8 @@ impl Shows {
     #[tactic(auto, using(crate::proofs::Kept::texts_kept))]
     pub fn text(&mut self, time: u64, values: &[Now]) -> Result<Vec<u8>, AllocError>
         requires one_each { length values.now ≡ length self.old }
-        ensures text { IfOk result (λ t. t.items ≡ instant_text time self.old (map (λ v. Ok v) values.now)) }
+        ensures text { IfOk result (λ t. t.items ≡
+            instant_text time self.old (map (λ v. Ok v) values.now)) }
         ensures after { OnOk result (self.new ≡ next_each self.old (map (λ v. Ok v) values.now)) }
         ensures err { OnErr result (self.new ≡ self.old) }
     {
@@ -278,7 +285,8 @@ impl Shows {
     /// The last plain text of the show at an index, which counts from 0; None where it had none yet.
     pub fn last(&self, k: usize) -> Option<&[u8]>
         requires there { k < length self.now }
-        ensures { MatchOption result (last_at self.now k ≡ None) (λ t. last_at self.now k ≡ Some t.now) }
+        ensures { MatchOption result (last_at self.now k ≡ None)
+            (λ t. last_at self.now k ≡ Some t.now) }
     {
         last_of(&self.shows[k])
     }

@@ -1,3 +1,4 @@
+//! Why a command stops.
 use fr_script::LineKind;
 use std::alloc::AllocError;
 

@@ -1,3 +1,4 @@
+//! Rows of tables: a call, the text that it is made on, and what is told of the answer.
 use crate::told::Told;
 use crate::{data, kernels, names, programs, purity, scripts};
 use std::alloc::Global;
@@ -84,4 +85,47 @@ pub(crate) fn wrong(alloc: Global, rows: &'static [Row]) -> usize {
         }
     }
     0
+}
+
+/// Lines, each a text that a call is made on, and behind ` => ` what is told of the answer.
+pub(crate) type Lines = &'static [&'static str];
+
+/// Whether a call on the text of a line tells what the line says.
+pub(crate) fn is_told(alloc: Global, call: Call, line: &str) -> bool {
+    match line.split_once(" => ") {
+        Some((text, want)) => tells(alloc, call, text.as_bytes(), want),
+        None => false,
+    }
+}
+
+/// The first line of which something else is told, if there is one.
+pub(crate) fn wrong_line(alloc: Global, call: Call, lines: Lines) -> Option<&'static str> {
+    for line in lines {
+        if !is_told(alloc, call, line) {
+            return Some(*line);
+        }
+    }
+    None
+}
+
+/// The tables of lines, each with its call.
+const TABLES: &[(Call, Lines)] = &[
+    (Call::Data, data::TEXTS),
+    (Call::Datum, data::SINGLE),
+    (Call::Symbol, data::SYMBOLS),
+    (Call::Measures, data::VALUES),
+    (Call::Same, data::SAME),
+    (Call::Applied, data::APPLICATIONS),
+    (Call::Outline, names::OUTLINES),
+    (Call::Core, programs::FORMS),
+    (Call::Shown, programs::EXPRESSIONS),
+    (Call::Classes, purity::CLASSES),
+    (Call::Fitness, purity::FITNESS),
+];
+
+#[test]
+fn each_line_is_told(rt: HostRuntime) {
+    for (call, lines) in TABLES {
+        assert_eq!(rt; wrong_line(rt.alloc(), *call, lines), None);
+    }
 }

@@ -1,4 +1,4 @@
-use crate::calls::{Call, Row, wrong};
+use crate::calls::{Call, Lines};
 use crate::names::tell_outline;
 use crate::told::Told;
 use fr_prims::{PrimStop, apply, prim_named};
@@ -174,28 +174,28 @@ fn tell_application(alloc: Global, out: &mut Told, datum: &Value) {
     }
 }
 
-const READ: &[Row] = &[
-    (
-        Call::Data,
-        "1 -2 +3 007 -0 #true 'x ;c\n [a \"\\n\"]",
-        "1 -2 3 7 0 #t (quote x) (a \"\\n\")",
-    ),
-    (Call::Data, "x (a (b \"c) d) e", "refused 2"),
-    (Call::Datum, "a", "a"),
-    (Call::Datum, " [1 'x] ; c", "(1 (quote x))"),
-    (Call::Datum, "", "refused"),
-    (Call::Datum, "; a", "refused"),
-    (Call::Datum, "1 2", "refused"),
-    (Call::Datum, "1 )", "refused"),
-    (Call::Datum, "(", "refused"),
-    (Call::Symbol, "set-it!", "set-it!"),
-    (Call::Symbol, "-.5", "none"),
-    (Call::Symbol, "\u{e9}", "none"),
+/// Texts, and their data or the number that is refused.
+pub(crate) const TEXTS: Lines = &[
+    "1 -2 +3 007 -0 #true 'x ;c\n [a \"\\n\"] => 1 -2 3 7 0 #t (quote x) (a \"\\n\")",
+    "x (a (b \"c) d) e => refused 2",
 ];
 
+/// Texts of one datum, and others.
+pub(crate) const SINGLE: Lines = &[
+    "a => a",
+    " [1 'x] ; c => (1 (quote x))",
+    " => refused",
+    "; a => refused",
+    "1 2 => refused",
+    "1 ) => refused",
+    "( => refused",
+];
+
+/// Texts, and the symbol that each is.
+pub(crate) const SYMBOLS: Lines = &["set-it! => set-it!", "-.5 => none", "\u{e9} => none"];
+
 #[test]
-fn texts_read(rt: HostRuntime) {
-    assert_eq!(rt; wrong(rt.alloc(), READ), 0);
+fn laws_of_readings_are_called() {
     printed_text_reads(&Value::Bool(true));
     one_reading();
 }
@@ -212,40 +212,28 @@ fn refusals_are_shown(rt: HostRuntime) -> Result<(), AllocError> {
 
 /// Values, and sizes, depths and texts; of a list also the number of items, the first and the third, and the rest's
 /// size and depth.
-const VALUES: &[Row] = &[
-    (Call::Measures, "0", "1 0 0"),
-    (Call::Measures, "-42", "1 0 -42"),
-    (
-        Call::Measures,
-        "-9223372036854775808",
-        "1 0 -9223372036854775808",
-    ),
-    (Call::Measures, "#t", "1 0 #t"),
-    (Call::Measures, "#f", "1 0 #f"),
-    (Call::Measures, "set-it!", "8 0 set-it!"),
-    (Call::Measures, "\"\"", "1 0 \"\""),
-    (
-        Call::Measures,
-        "\"a\\\"b\\\\c\\nd\\te\\rf;\u{e9} \"",
-        "16 0 \"a\\\"b\\\\c\\nd\\te\\rf;\u{e9} \"",
-    ),
-    (Call::Measures, "((()))", "3 3 ((())) 1 1 (()) none 1 1"),
-    (Call::Measures, "(7 (()) x)", "6 3 (7 (()) x) 3 3 7 x 5 3"),
-    (Call::Measures, "((()) x)", "5 3 ((()) x) 2 2 (()) none 3 1"),
-    (Call::Measures, "(x)", "3 1 (x) 1 1 x none 1 1"),
-    (Call::Measures, "()", "1 1 () 0 0 none none none"),
-    (
-        Call::Same,
-        "(1 2 #t #f ab \"ab\" \"ba\" () (()) (1) (2) (\"ab\"))",
-        "=........... .=.......... ..=......... ...=........ ....=....... .....=...... \
-         ......=..... .......=.... ........=... .........=.. ..........=. ...........=",
-    ),
+pub(crate) const VALUES: Lines = &[
+    "0 => 1 0 0",
+    "-42 => 1 0 -42",
+    "-9223372036854775808 => 1 0 -9223372036854775808",
+    "#t => 1 0 #t",
+    "#f => 1 0 #f",
+    "set-it! => 8 0 set-it!",
+    "\"\" => 1 0 \"\"",
+    "\"a\\\"b\\\\c\\nd\\te\\rf;\u{e9} \" => 16 0 \"a\\\"b\\\\c\\nd\\te\\rf;\u{e9} \"",
+    "((())) => 3 3 ((())) 1 1 (()) none 1 1",
+    "(7 (()) x) => 6 3 (7 (()) x) 3 3 7 x 5 3",
+    "((()) x) => 5 3 ((()) x) 2 2 (()) none 3 1",
+    "(x) => 3 1 (x) 1 1 x none 1 1",
+    "() => 1 1 () 0 0 none none none",
 ];
 
-#[test]
-fn values_have_sizes_depths_and_parts(rt: HostRuntime) {
-    assert_eq!(rt; wrong(rt.alloc(), VALUES), 0);
-}
+/// Items of a list, and for each a sign for every item of the same list, read again.
+pub(crate) const SAME: Lines = &[
+    "(1 2 #t #f ab \"ab\" \"ba\" () (()) (1) (2) (\"ab\")) => \
+         =........... .=.......... ..=......... ...=........ ....=....... .....=...... \
+         ......=..... .......=.... ........=... .........=.. ..........=. ...........=",
+];
 
 fn is_occurrence(now: &Now) -> bool {
     matches!(now, Now::Occ(Some(Value::Bool(true))))
@@ -271,56 +259,51 @@ fn states_and_texts_are_shared(rt: HostRuntime) -> Result<(), AllocError> {
 }
 
 /// What two primitives answer, and what primitives refuse, with the kind.
-const REFUSALS: &[Row] = &[
-    (Call::Applied, "(append (1) () (2 3))", "(1 2 3)"),
-    (Call::Applied, "(first (a))", "a"),
-    (Call::Applied, "(+ 9223372036854775807 1)", "Range"),
-    (Call::Applied, "(+ 9223372036854775807 1 -1)", "Range"),
-    (Call::Applied, "(+ 9223372036854775807 1 #t)", "WrongType"),
-    (Call::Applied, "(* 4611686018427387904 2)", "Range"),
-    (Call::Applied, "(-)", "Arity"),
-    (Call::Applied, "(- -9223372036854775808)", "Range"),
-    (Call::Applied, "(- -9223372036854775808 1)", "Range"),
-    (Call::Applied, "(- a)", "WrongType"),
-    (Call::Applied, "(quotient 7 0)", "Zero"),
-    (Call::Applied, "(quotient -9223372036854775808 -1)", "Range"),
-    (Call::Applied, "(quotient a)", "Arity"),
-    (Call::Applied, "(quotient a 0)", "WrongType"),
-    (Call::Applied, "(remainder 1 0)", "Zero"),
-    (Call::Applied, "(modulo 1 0)", "Zero"),
-    (Call::Applied, "(abs -9223372036854775808)", "Range"),
-    (Call::Applied, "(abs)", "Arity"),
-    (Call::Applied, "(min)", "Arity"),
-    (Call::Applied, "(max 1 #f)", "WrongType"),
-    (Call::Applied, "(=)", "Arity"),
-    (Call::Applied, "(< 2 1 a)", "WrongType"),
-    (Call::Applied, "(even? a)", "WrongType"),
-    (Call::Applied, "(zero? a b)", "Arity"),
-    (Call::Applied, "(not)", "Arity"),
-    (Call::Applied, "(equal? 1)", "Arity"),
-    (Call::Applied, "(raise 1)", "Raised"),
-    (Call::Applied, "(raise)", "Arity"),
-    (Call::Applied, "(second (1))", "no primitive"),
-    (Call::Applied, "(cons 1 2)", "WrongType"),
-    (Call::Applied, "(cons 1)", "Arity"),
-    (Call::Applied, "(first ())", "Empty"),
-    (Call::Applied, "(cdr ())", "Empty"),
-    (Call::Applied, "(car 1)", "WrongType"),
-    (Call::Applied, "(length a)", "WrongType"),
-    (Call::Applied, "(append (1) 2)", "WrongType"),
-    (Call::Applied, "(list-ref (1 2) 2)", "Range"),
-    (Call::Applied, "(list-ref (1 2) -1)", "Range"),
-    (Call::Applied, "(list-ref 1 0)", "WrongType"),
-    (Call::Applied, "(list-ref (1) a)", "WrongType"),
-    (Call::Applied, "(string-length a)", "WrongType"),
-    (Call::Applied, "(string-append \"a\" a)", "WrongType"),
-    (Call::Applied, "(string=?)", "Arity"),
-    (Call::Applied, "(string=? \"a\" 1)", "WrongType"),
-    (Call::Applied, "(symbol->string \"a\")", "WrongType"),
-    (Call::Applied, "(number->string a)", "WrongType"),
+pub(crate) const APPLICATIONS: Lines = &[
+    "(append (1) () (2 3)) => (1 2 3)",
+    "(first (a)) => a",
+    "(+ 9223372036854775807 1) => Range",
+    "(+ 9223372036854775807 1 -1) => Range",
+    "(+ 9223372036854775807 1 #t) => WrongType",
+    "(* 4611686018427387904 2) => Range",
+    "(-) => Arity",
+    "(- -9223372036854775808) => Range",
+    "(- -9223372036854775808 1) => Range",
+    "(- a) => WrongType",
+    "(quotient 7 0) => Zero",
+    "(quotient -9223372036854775808 -1) => Range",
+    "(quotient a) => Arity",
+    "(quotient a 0) => WrongType",
+    "(remainder 1 0) => Zero",
+    "(modulo 1 0) => Zero",
+    "(abs -9223372036854775808) => Range",
+    "(abs) => Arity",
+    "(min) => Arity",
+    "(max 1 #f) => WrongType",
+    "(=) => Arity",
+    "(< 2 1 a) => WrongType",
+    "(even? a) => WrongType",
+    "(zero? a b) => Arity",
+    "(not) => Arity",
+    "(equal? 1) => Arity",
+    "(raise 1) => Raised",
+    "(raise) => Arity",
+    "(second (1)) => no primitive",
+    "(cons 1 2) => WrongType",
+    "(cons 1) => Arity",
+    "(first ()) => Empty",
+    "(cdr ()) => Empty",
+    "(car 1) => WrongType",
+    "(length a) => WrongType",
+    "(append (1) 2) => WrongType",
+    "(list-ref (1 2) 2) => Range",
+    "(list-ref (1 2) -1) => Range",
+    "(list-ref 1 0) => WrongType",
+    "(list-ref (1) a) => WrongType",
+    "(string-length a) => WrongType",
+    "(string-append \"a\" a) => WrongType",
+    "(string=?) => Arity",
+    "(string=? \"a\" 1) => WrongType",
+    "(symbol->string \"a\") => WrongType",
+    "(number->string a) => WrongType",
 ];
-
-#[test]
-fn primitives_refuse_with_their_kind(rt: HostRuntime) {
-    assert_eq!(rt; wrong(rt.alloc(), REFUSALS), 0);
-}

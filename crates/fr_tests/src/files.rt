@@ -1,5 +1,5 @@
 use fr_io::{
-    DirShelf, Failed, MemShelf, MemSink, ReadStop, Shelf, Sink, StdSink, SureShelf, SureSink,
+    DirShelf, Failed, FileStop, MemShelf, MemSink, Shelf, Sink, StdSink, SureShelf, SureSink,
     read_up_to, write_all,
 };
 use std::alloc::{AllocError, Global};
@@ -131,8 +131,8 @@ fn read_of(alloc: Global, limit: usize, failing: u64) -> Result<usize, AllocErro
     let mut shelf = MemShelf::new(alloc, files, Vec::from_slice(alloc, &[failing])?)?;
     match read_up_to(alloc, &mut shelf, "long", limit) {
         Ok(bytes) => Ok(bytes.len()),
-        Err(ReadStop::Failed) => Ok(0),
-        Err(ReadStop::Memory(e)) => Err(e),
+        Err(FileStop::Failed) => Ok(0),
+        Err(FileStop::Memory(e)) => Err(e),
     }
 }
 

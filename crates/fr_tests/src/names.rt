@@ -1,4 +1,4 @@
-use crate::calls::{Call, Row, wrong};
+use crate::calls::{Call, Lines, tells};
 use crate::told::Told;
 use fr_reader::{read_all, read_one};
 use fr_scope::{Globals, Meaning, Scope};
@@ -96,151 +96,111 @@ pub(crate) fn tell_meaning(alloc: Global, out: &mut Told, text: &[u8], steps: &s
     }
 }
 
-/// The names of the rows' variables and the innermost of a name; then what hides what; then which form decides.
-const MEANINGS: &[Row] = &[
-    (Call::Meaning("", "x"), "", "0 none"),
-    (Call::Meaning("x", "x"), "", "1 0"),
-    (Call::Meaning("x y", "y"), "", "2 1"),
-    (Call::Meaning("x y", "z"), "", "2 none"),
-    (Call::Meaning("x y x", "x"), "", "3 2"),
-    (Call::Meaning("x y x <2", "x"), "", "2 0"),
-    (Call::Meaning("x y x <2", "y"), "", "2 1"),
-    (Call::Meaning("x y x <1", "y"), "", "1 none"),
-    (Call::Meaning("x y x <0", "x"), "", "0 none"),
-    (Call::Meaning("x y x <7", "x"), "", "3 2"),
-    (Call::Meaning("x x x <2", "x"), "", "2 1"),
-    (Call::Meaning("x y x <2 z x", "x"), "", "4 3"),
-    (Call::Meaning("x y x <1 z y <2", "y"), "", "2 none"),
-    (Call::Meaning("_ x _", "x"), "", "3 1"),
-    (Call::Meaning("x _ x <2", "x"), "", "2 0"),
-    (Call::Meaning("x _", "_"), "", "2 none"),
-    (Call::Meaning("x X", "x"), "", "2 0"),
-    (Call::Meaning("xx x", "xx"), "", "2 0"),
+/// Forms; and steps of a scope, a name behind `? `, and the number of variables there and what the name means.
+const MEANINGS: &[(&str, Lines)] = &[
     (
-        Call::Meaning("", "x"),
-        "(define-input x 1) (define-event e) (define (f n) n)",
-        "0 source 1",
+        "",
+        &[
+            "? x => 0 none",
+            "x ? x => 1 0",
+            "x y ? y => 2 1",
+            "x y ? z => 2 none",
+            "x y x ? x => 3 2",
+            "x y x <2 ? x => 2 0",
+            "x y x <2 ? y => 2 1",
+            "x y x <1 ? y => 1 none",
+            "x y x <0 ? x => 0 none",
+            "x y x <7 ? x => 3 2",
+            "x x x <2 ? x => 2 1",
+            "x y x <2 z x ? x => 4 3",
+            "x y x <1 z y <2 ? y => 2 none",
+            "_ x _ ? x => 3 1",
+            "x _ x <2 ? x => 2 0",
+            "x _ ? _ => 2 none",
+            "x X ? x => 2 0",
+            "xx x ? xx => 2 0",
+        ],
     ),
     (
-        Call::Meaning("", "e"),
         "(define-input x 1) (define-event e) (define (f n) n)",
-        "0 source 2",
+        &[
+            "? x => 0 source 1",
+            "? e => 0 source 2",
+            "? f => 0 function 0",
+            "? n => 0 none",
+            "? now => 0 source 0",
+            "? car => 0 primitive",
+            "? first => 0 primitive",
+            "y x ? x => 2 1",
+            "y x <1 ? x => 1 source 1",
+            "f ? f => 1 0",
+            "now car ? now => 2 0",
+            "now car ? car => 2 1",
+            "now car ? first => 2 primitive",
+        ],
     ),
     (
-        Call::Meaning("", "f"),
-        "(define-input x 1) (define-event e) (define (f n) n)",
-        "0 function 0",
-    ),
-    (
-        Call::Meaning("", "n"),
-        "(define-input x 1) (define-event e) (define (f n) n)",
-        "0 none",
-    ),
-    (
-        Call::Meaning("", "now"),
-        "(define-input x 1) (define-event e) (define (f n) n)",
-        "0 source 0",
-    ),
-    (
-        Call::Meaning("", "car"),
-        "(define-input x 1) (define-event e) (define (f n) n)",
-        "0 primitive",
-    ),
-    (
-        Call::Meaning("", "first"),
-        "(define-input x 1) (define-event e) (define (f n) n)",
-        "0 primitive",
-    ),
-    (
-        Call::Meaning("y x", "x"),
-        "(define-input x 1) (define-event e) (define (f n) n)",
-        "2 1",
-    ),
-    (
-        Call::Meaning("y x <1", "x"),
-        "(define-input x 1) (define-event e) (define (f n) n)",
-        "1 source 1",
-    ),
-    (
-        Call::Meaning("f", "f"),
-        "(define-input x 1) (define-event e) (define (f n) n)",
-        "1 0",
-    ),
-    (
-        Call::Meaning("now car", "now"),
-        "(define-input x 1) (define-event e) (define (f n) n)",
-        "2 0",
-    ),
-    (
-        Call::Meaning("now car", "car"),
-        "(define-input x 1) (define-event e) (define (f n) n)",
-        "2 1",
-    ),
-    (
-        Call::Meaning("now car", "first"),
-        "(define-input x 1) (define-event e) (define (f n) n)",
-        "2 primitive",
-    ),
-    (
-        Call::Meaning("", "car"),
         "(define-input car 1) (define (now) 1)",
-        "0 source 1",
+        &[
+            "? car => 0 source 1",
+            "? first => 0 primitive",
+            "? now => 0 function 0",
+        ],
     ),
     (
-        Call::Meaning("", "first"),
-        "(define-input car 1) (define (now) 1)",
-        "0 primitive",
-    ),
-    (
-        Call::Meaning("", "now"),
-        "(define-input car 1) (define (now) 1)",
-        "0 function 0",
-    ),
-    (
-        Call::Meaning("", "f"),
         "(define (f) 1) (define-input f 2) (define-input g 3)",
-        "0 function 0",
+        &["? f => 0 function 0", "? g => 0 source 2"],
     ),
     (
-        Call::Meaning("", "g"),
-        "(define (f) 1) (define-input f 2) (define-input g 3)",
-        "0 source 2",
-    ),
-    (
-        Call::Meaning("", "f"),
         "(define-event f) (define (f) 1) (define (g) 2)",
-        "0 source 1",
+        &["? f => 0 source 1", "? g => 0 function 1"],
     ),
+    ("(define-input x)", &["? x => 0 source 1"]),
+    ("(define-event x 1 2)", &["? x => 0 source 1"]),
+    ("(define (f 1 2))", &["? f => 0 function 0"]),
     (
-        Call::Meaning("", "g"),
-        "(define-event f) (define (f) 1) (define (g) 2)",
-        "0 function 1",
-    ),
-    (Call::Meaning("", "x"), "(define-input x)", "0 source 1"),
-    (Call::Meaning("", "x"), "(define-event x 1 2)", "0 source 1"),
-    (Call::Meaning("", "f"), "(define (f 1 2))", "0 function 0"),
-    (
-        Call::Meaning("", "x"),
         "(define-input 5 1) (define-input x 1)",
-        "0 source 1",
+        &["? x => 0 source 1"],
     ),
-    (Call::Meaning("", "x"), "(define-event (x) 1)", "0 none"),
+    ("(define-event (x) 1)", &["? x => 0 none"]),
     (
-        Call::Meaning("", "define-input"),
         "(define-input) (define-event)",
-        "0 none",
+        &["? define-input => 0 none"],
     ),
-    (Call::Meaning("", "define"), "(define () 1)", "0 none"),
-    (Call::Meaning("", "f"), "(define (5 f) 1)", "0 none"),
-    (Call::Meaning("", "f"), "(define f 1)", "0 none"),
-    (Call::Meaning("", "a"), "(show a 1)", "0 none"),
-    (Call::Meaning("", "x"), "(input x 1)", "0 none"),
-    (Call::Meaning("", "x"), "x", "0 none"),
+    ("(define () 1)", &["? define => 0 none"]),
+    ("(define (5 f) 1)", &["? f => 0 none"]),
+    ("(define f 1)", &["? f => 0 none"]),
+    ("(show a 1)", &["? a => 0 none"]),
+    ("(input x 1)", &["? x => 0 none"]),
+    ("x", &["? x => 0 none"]),
 ];
+
+/// Whether a name means what a line says, where these forms stand.
+fn means(alloc: Global, forms: &str, line: &'static str) -> bool {
+    let Some((steps, rest)) = line.split_once("? ") else {
+        return false;
+    };
+    match rest.split_once(" => ") {
+        Some((name, want)) => tells(alloc, Call::Meaning(steps, name), forms.as_bytes(), want),
+        None => false,
+    }
+}
+
+/// The first of these lines that says something else, if there is one.
+fn wrong_meaning(alloc: Global, forms: &str, lines: Lines) -> Option<&'static str> {
+    for line in lines {
+        if !means(alloc, forms, line) {
+            return Some(*line);
+        }
+    }
+    None
+}
 
 #[test]
 fn names_mean_the_innermost_variable_or_the_first_form(rt: HostRuntime) {
-    assert_eq!(rt; wrong(rt.alloc(), MEANINGS), 0);
+    for (forms, lines) in MEANINGS {
+        assert_eq!(rt; wrong_meaning(rt.alloc(), forms, lines), None);
+    }
 }
 
 /// The global name that a form gives, behind what it is.
@@ -258,35 +218,31 @@ pub(crate) fn tell_outline(out: &mut Told, form: &Value) {
     }
 }
 
-const OUTLINES: &[Row] = &[
-    (Call::Outline, "(define-input x 1)", "input x"),
-    (Call::Outline, "(define-input x)", "input x"),
-    (Call::Outline, "(define-input if 1 2 3)", "input if"),
-    (Call::Outline, "(define-event e)", "event e"),
-    (Call::Outline, "(define-event e ())", "event e"),
-    (Call::Outline, "(define (f a) a)", "function f"),
-    (Call::Outline, "(define (f 1))", "function f"),
-    (Call::Outline, "(define (f))", "function f"),
-    (Call::Outline, "(define x 1)", "none"),
-    (Call::Outline, "(define () 1)", "none"),
-    (Call::Outline, "(define (1) 2)", "none"),
-    (Call::Outline, "(define ((f)) 2)", "none"),
-    (Call::Outline, "(define)", "none"),
-    (Call::Outline, "(define-input)", "none"),
-    (Call::Outline, "(define-input (x) 1)", "none"),
-    (Call::Outline, "(define-input 1 2)", "none"),
-    (Call::Outline, "(define-event (e))", "none"),
-    (Call::Outline, "(show x 1)", "none"),
-    (Call::Outline, "(f x)", "none"),
-    (Call::Outline, "((define-input) x)", "none"),
-    (Call::Outline, "()", "none"),
-    (Call::Outline, "x", "none"),
+/// Forms, and the global name that each gives by its first two items.
+pub(crate) const OUTLINES: Lines = &[
+    "(define-input x 1) => input x",
+    "(define-input x) => input x",
+    "(define-input if 1 2 3) => input if",
+    "(define-event e) => event e",
+    "(define-event e ()) => event e",
+    "(define (f a) a) => function f",
+    "(define (f 1)) => function f",
+    "(define (f)) => function f",
+    "(define x 1) => none",
+    "(define () 1) => none",
+    "(define (1) 2) => none",
+    "(define ((f)) 2) => none",
+    "(define) => none",
+    "(define-input) => none",
+    "(define-input (x) 1) => none",
+    "(define-input 1 2) => none",
+    "(define-event (e)) => none",
+    "(show x 1) => none",
+    "(f x) => none",
+    "((define-input) x) => none",
+    "() => none",
+    "x => none",
 ];
-
-#[test]
-fn an_outline_asks_for_the_first_two_items_alone(rt: HostRuntime) {
-    assert_eq!(rt; wrong(rt.alloc(), OUTLINES), 0);
-}
 
 // It takes the form by value, since letting one go in an arm of a match is very dear to prove.
 fn is_event(form: Option<Form>, want: &str) -> bool {

@@ -1,4 +1,4 @@
-use crate::calls::{Call, Row, wrong};
+use crate::calls::Lines;
 use crate::told::Told;
 use fr_core::{Core, Function, Item, Program};
 use fr_purity::{Classes, classify, is_fit, is_pure};
@@ -49,161 +49,69 @@ pub(crate) fn tell_fitness(alloc: Global, out: &mut Told, program: &Program) {
     }
 }
 
-const CLASSES: &[Row] = &[
-    (Call::Classes, "(show y 1)", "closed , pure "),
-    (
-        Call::Classes,
-        "(define (f a b) (+ (* a a) (* b b)))",
-        "closed 1, pure 1",
-    ),
-    (
-        Call::Classes,
-        "(define (f a b) (collect-b a b (lambda (v s) s)))(define (g a b) (f a b))(define (h a b) (+ (* a a) (* b b)))",
-        "closed 111, pure 001",
-    ),
-    (
-        Call::Classes,
-        "(define (f a b) (f a b))",
-        "closed 1, pure 1",
-    ),
-    (
-        Call::Classes,
-        "(define (f a b) (g a b))(define (g a b) (f a b))",
-        "closed 11, pure 11",
-    ),
-    (
-        Call::Classes,
-        "(define (f a b) (+ (* a a) (* b b)))(define (g a b) (f a))(define (h a b) (f a b a))",
-        "closed 111, pure 100",
-    ),
-    (
-        Call::Classes,
-        "(define (f a b) (not a b))",
-        "closed 1, pure 1",
-    ),
-    (
-        Call::Classes,
-        "(define-input x 0)(define (f a b) (g a b))(define (g a b) x)",
-        "closed 00, pure 00",
-    ),
-    (
-        Call::Classes,
-        "(define (f a b) (+ (* a a) (* b b)))(define (g a b) (f a b))(define (h a b) (i a b))(define (i a b) (j a b))(define (j a b) (delay a b))",
-        "closed 11111, pure 11000",
-    ),
-    (
-        Call::Classes,
-        "(define-input x 0)(define (f a b) (g a b))(define (g a b) (+ (f a b) (h a b)))(define (h a b) (collect-b a b (lambda (v s) s)))(define (i a b) (+ (j a b) (i a b)))(define (j a b) x)",
-        "closed 11100, pure 00000",
-    ),
-    (
-        Call::Classes,
-        "(define (f a b) (+ (g a b) (f a b)))(define (g a b) (+ (f a b) (h a b)))(define (h a b) 1)",
-        "closed 111, pure 111",
-    ),
+/// Programs, and for each function whether it is closed, and whether pure.
+pub(crate) const CLASSES: Lines = &[
+    "(show y 1) => closed , pure ",
+    "(define (f a b) (+ (* a a) (* b b))) => closed 1, pure 1",
+    "(define (f a b) (collect-b a b (lambda (v s) s)))(define (g a b) (f a b))(define (h a b) (+ (* a a) (* b b))) => closed 111, pure 001",
+    "(define (f a b) (f a b)) => closed 1, pure 1",
+    "(define (f a b) (g a b))(define (g a b) (f a b)) => closed 11, pure 11",
+    "(define (f a b) (+ (* a a) (* b b)))(define (g a b) (f a))(define (h a b) (f a b a)) => closed 111, pure 100",
+    "(define (f a b) (not a b)) => closed 1, pure 1",
+    "(define-input x 0)(define (f a b) (g a b))(define (g a b) x) => closed 00, pure 00",
+    "(define (f a b) (+ (* a a) (* b b)))(define (g a b) (f a b))(define (h a b) (i a b))(define (i a b) (j a b))(define (j a b) (delay a b)) => closed 11111, pure 11000",
+    "(define-input x 0)(define (f a b) (g a b))(define (g a b) (+ (f a b) (h a b)))(define (h a b) (collect-b a b (lambda (v s) s)))(define (i a b) (+ (j a b) (i a b)))(define (j a b) x) => closed 11100, pure 00000",
+    "(define (f a b) (+ (g a b) (f a b)))(define (g a b) (+ (f a b) (h a b)))(define (h a b) 1) => closed 111, pure 111",
 ];
 
-#[test]
-fn functions_are_closed_and_pure(rt: HostRuntime) {
-    assert_eq!(rt; wrong(rt.alloc(), CLASSES), 0);
-}
-
-const FITNESS: &[Row] = &[
-    (Call::Fitness, "1", "1 1"),
-    (Call::Fitness, "a", "1 1"),
-    (Call::Fitness, "(+ (* a a) (* b b))", "1 1"),
-    (Call::Fitness, "(not a b)", "1 1"),
-    (Call::Fitness, "(f a b)", "1 1"),
-    (Call::Fitness, "(+ (f a b) (f a b))", "1 1"),
-    (Call::Fitness, "(let ((p a) (q b)) p)", "1 1"),
-    (Call::Fitness, "(if a b b)", "1 1"),
-    (Call::Fitness, "(f a)", "0 1"),
-    (Call::Fitness, "(g a b)", "0 1"),
-    (Call::Fitness, "(h a b)", "0 1"),
-    (Call::Fitness, "(collect-b a b (lambda (v s) s))", "0 1"),
-    (Call::Fitness, "(merge-e a b)", "0 1"),
-    (Call::Fitness, "(hold a b)", "0 1"),
-    (Call::Fitness, "(changes a)", "0 1"),
-    (Call::Fitness, "(once-e a)", "0 1"),
-    (Call::Fitness, "(delay a b)", "0 1"),
-    (Call::Fitness, "(delay-e a)", "0 1"),
-    (Call::Fitness, "(feedback (m a) b)", "0 1"),
-    (Call::Fitness, "(abs (+ (* a a) (* b b)) a)", "1 1"),
-    (Call::Fitness, "(f (+ (* a a) (* b b)) a)", "1 1"),
-    (
-        Call::Fitness,
-        "(let ((p (+ (* a a) (* b b))) (q a)) p)",
-        "1 1",
-    ),
-    (Call::Fitness, "(merge-e (+ (* a a) (* b b)) a)", "0 1"),
-    (Call::Fitness, "(if (+ (* a a) (* b b)) a b)", "1 1"),
-    (
-        Call::Fitness,
-        "(for/fold ((s (+ (* a a) (* b b)))) ((t a)) b)",
-        "1 1",
-    ),
-    (
-        Call::Fitness,
-        "(map-e (lambda (v) b) (+ (* a a) (* b b)))",
-        "0 1",
-    ),
-    (
-        Call::Fitness,
-        "(collect-b (+ (* a a) (* b b)) a (lambda (v s) s))",
-        "0 1",
-    ),
-    (Call::Fitness, "(let ((p a)) (+ (* a a) (* b b)))", "1 1"),
-    (Call::Fitness, "(if a b (+ (* a a) (* b b)))", "1 1"),
-    (
-        Call::Fitness,
-        "(for/fold ((s a)) ((t b)) (+ (* a a) (* b b)))",
-        "1 1",
-    ),
-    (Call::Fitness, "(repeat (s a) b (+ (* a a) (* b b)))", "1 1"),
-    (
-        Call::Fitness,
-        "(map-e (lambda (v) (+ (* a a) (* b b))) a)",
-        "0 1",
-    ),
-    (
-        Call::Fitness,
-        "(filter-e (lambda (v) (+ (* a a) (* b b))) a)",
-        "0 1",
-    ),
-    (
-        Call::Fitness,
-        "(collect-b a b (lambda (v s) (+ (* a a) (* b b))))",
-        "0 1",
-    ),
-    (
-        Call::Fitness,
-        "(collect-e a b (lambda (v s) (+ (* a a) (* b b))))",
-        "0 1",
-    ),
-    (Call::Fitness, "(abs (delay a b) a)", "0 1"),
-    (Call::Fitness, "(f (delay a b) a)", "0 1"),
-    (Call::Fitness, "(let ((p (delay a b)) (q a)) p)", "0 1"),
-    (Call::Fitness, "(merge-e (delay a b) a)", "0 1"),
-    (Call::Fitness, "(if (delay a b) a b)", "0 1"),
-    (
-        Call::Fitness,
-        "(for/fold ((s (delay a b))) ((t a)) b)",
-        "0 1",
-    ),
-    (Call::Fitness, "(map-e (lambda (v) b) (delay a b))", "0 1"),
-    (
-        Call::Fitness,
-        "(collect-b (delay a b) a (lambda (v s) s))",
-        "0 1",
-    ),
-    (Call::Fitness, "(let ((p a)) (delay a b))", "0 1"),
-    (Call::Fitness, "(if a b (delay a b))", "0 1"),
+/// Expressions behind the names, and whether each is pure, and whether fit.
+pub(crate) const FITNESS: Lines = &[
+    "1 => 1 1",
+    "a => 1 1",
+    "(+ (* a a) (* b b)) => 1 1",
+    "(not a b) => 1 1",
+    "(f a b) => 1 1",
+    "(+ (f a b) (f a b)) => 1 1",
+    "(let ((p a) (q b)) p) => 1 1",
+    "(if a b b) => 1 1",
+    "(f a) => 0 1",
+    "(g a b) => 0 1",
+    "(h a b) => 0 1",
+    "(collect-b a b (lambda (v s) s)) => 0 1",
+    "(merge-e a b) => 0 1",
+    "(hold a b) => 0 1",
+    "(changes a) => 0 1",
+    "(once-e a) => 0 1",
+    "(delay a b) => 0 1",
+    "(delay-e a) => 0 1",
+    "(feedback (m a) b) => 0 1",
+    "(abs (+ (* a a) (* b b)) a) => 1 1",
+    "(f (+ (* a a) (* b b)) a) => 1 1",
+    "(let ((p (+ (* a a) (* b b))) (q a)) p) => 1 1",
+    "(merge-e (+ (* a a) (* b b)) a) => 0 1",
+    "(if (+ (* a a) (* b b)) a b) => 1 1",
+    "(for/fold ((s (+ (* a a) (* b b)))) ((t a)) b) => 1 1",
+    "(map-e (lambda (v) b) (+ (* a a) (* b b))) => 0 1",
+    "(collect-b (+ (* a a) (* b b)) a (lambda (v s) s)) => 0 1",
+    "(let ((p a)) (+ (* a a) (* b b))) => 1 1",
+    "(if a b (+ (* a a) (* b b))) => 1 1",
+    "(for/fold ((s a)) ((t b)) (+ (* a a) (* b b))) => 1 1",
+    "(repeat (s a) b (+ (* a a) (* b b))) => 1 1",
+    "(map-e (lambda (v) (+ (* a a) (* b b))) a) => 0 1",
+    "(filter-e (lambda (v) (+ (* a a) (* b b))) a) => 0 1",
+    "(collect-b a b (lambda (v s) (+ (* a a) (* b b)))) => 0 1",
+    "(collect-e a b (lambda (v s) (+ (* a a) (* b b)))) => 0 1",
+    "(abs (delay a b) a) => 0 1",
+    "(f (delay a b) a) => 0 1",
+    "(let ((p (delay a b)) (q a)) p) => 0 1",
+    "(merge-e (delay a b) a) => 0 1",
+    "(if (delay a b) a b) => 0 1",
+    "(for/fold ((s (delay a b))) ((t a)) b) => 0 1",
+    "(map-e (lambda (v) b) (delay a b)) => 0 1",
+    "(collect-b (delay a b) a (lambda (v s) s)) => 0 1",
+    "(let ((p a)) (delay a b)) => 0 1",
+    "(if a b (delay a b)) => 0 1",
 ];
-
-#[test]
-fn expressions_are_pure_and_fit(rt: HostRuntime) {
-    assert_eq!(rt; wrong(rt.alloc(), FITNESS), 0);
-}
 
 fn caller(alloc: Global, next: u32) -> Result<Function, AllocError> {
     Ok(Function {

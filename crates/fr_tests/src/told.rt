@@ -1,3 +1,4 @@
+//! Texts in which tests tell what a call answered.
 use fr_value::{Bad, Value, text_into};
 use itoa::Buffer;
 use std::alloc::Global;

@@ -7,7 +7,7 @@ use Rattle.fr_meaning.specs.Words.{First, Done as Evaluated, under}
 use Rattle.fr_meaning.specs.States.{Line}
 use Rattle.fr_meaning.specs.Evaluation.{join_part, no_parts, line_done}
 use Rattle.fr_meaning.proofs.Levels.{at_zero, at_level}
-use Rattle.fr_afresh.specs.Told.{told, unbegun_around, joined, lined}
+use Rattle.fr_afresh.specs.Outcomes.{without_cost, unbegun_around, with_kept, lined}
 use Rattle.fr_afresh.proofs.evaluation.+eval.Goals as goal
 
 pub eval-returns-then-left-eq0-clause-value : goal.eval-returns-then-left-eq0-clause-value
@@ -57,7 +57,7 @@ or_none : (f : First) → option_or f None ≡ f
 or_none None = refl
 or_none (Some f) = refl
 
-fed_alike : (x y : Evaluated) (l : Line) → lined (joined (joined unbegun_around 0 x.kept x.first) 1 y.kept y.first) l ≡ told (line_done (join_part 0 x (join_part 1 y no_parts)) l)
+fed_alike : (x y : Evaluated) (l : Line) → lined (with_kept (with_kept unbegun_around 0 x.kept x.first) 1 y.kept y.first) l ≡ without_cost (line_done (join_part 0 x (join_part 1 y no_parts)) l)
 fed_alike x y l = rw (or_none (under 1 y.first)) refl
 
 pub eval_feedback-returns-clause-value : goal.eval_feedback-returns-clause-value

@@ -1,12 +1,12 @@
 use Rattle.std.proofs.Common.{◌≡◌, List, ℕ, take, length, sym, subst, rules, IfSome, Ok, Err}
 use Rattle.fr_io.specs.Files.{ReachesFront}
-use Rattle.fr_cli.specs.Command.{over_script}
+use Rattle.fr_cli.specs.Command.{script_command}
 use Rattle.fr_cli.proofs.Runs.{unread, ran}
 use Rattle.fr_cli.proofs.top.run.Goals as goal
 
 pub returns-in-Err : goal.returns-in-Err
 returns-in-Err g c word =
-    unread (over_script word c.args.program.now c.args.script.now) c.in-Err.stop _ _ _ _ _ _ _ _ c.in-Err.ensures.err (search rules) (search rules) c.in-Err.ensures.shelf
+    unread (script_command word c.args.program.now c.args.script.now) c.in-Err.stop _ _ _ _ _ _ _ _ c.in-Err.ensures.err (search rules) (search rules) c.in-Err.ensures.shelf
 
 pub returns-in-Ok-run_session : goal.returns-in-Ok-run_session
 returns-in-Ok-run_session g c word =

@@ -1,7 +1,7 @@
 use Rattle.std.proofs.Common.{arith, sym, ◌∙◌, subst, refl}
 use Rattle.std.proofs.lemmas.List.{length-map}
 use Rattle.fr_value.specs.Data.{data_of, datum_of}
-use Rattle.fr_expand.specs.Stops.{Tells}
+use Rattle.fr_expand.specs.Stops.{IsStopOf}
 use Rattle.fr_expand.proofs.Expanded.{finds_shaped, finds_form, finds_second, finds_well_formed}
 use Rattle.fr_expand.proofs.Sizes.{few_data, shaped_small}
 use Rattle.fr_expand.proofs.expansion.expand.Goals as goal
@@ -22,7 +22,7 @@ refused-requires c = omega (arith, c.requires, few_data (data_of c.args.forms.no
 
 pub returns-then-shaped-forms-clause-refused : goal.returns-then-shaped-forms-clause-refused
 returns-then-shaped-forms-clause-refused c =
-    subst (Tells (data_of c.args.forms.now)) (sym c.refused.ensures)
+    subst (IsStopOf (data_of c.args.forms.now)) (sym c.refused.ensures)
     (finds_form (data_of c.args.forms.now) c.in_ok-globals.globals c.as_slice-shaped.result.now c.in_ok-globals.ensures (c.as_slice-shaped.ensures.value ∙ c.in_ok-shapes.ensures)
     c.in_ok-refusal.field-0 _ c.in_default.is c.in_ok-refusal.ensures (omega (arith, length-map c.args.forms.now datum_of, c.if-shaped-forms.true)) refl)
 

@@ -1,4 +1,4 @@
-use Rattle.std.proofs.Common.{◌∙◌, ap, Err, List, Option, refl, subst, sym}
+use Rattle.std.proofs.Common.{◌∙◌, ap, Err, Option, refl, subst, sym}
 use Rattle.fr_core.specs.WellFormed.{IsWellFormed}
 use Rattle.fr_core.specs.declared.inputs.Inputs.{Inputs}
 use Rattle.fr_meaning.specs.Afresh.{instant}

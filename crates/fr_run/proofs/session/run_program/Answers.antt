@@ -1,4 +1,4 @@
-use Rattle.std.proofs.Common.{◌≡◌, List, ℕ, true, subst, sym, ap, length}
+use Rattle.std.proofs.Common.{List, ℕ, true, subst, sym, ap, length}
 use Rattle.fr_core.specs.WellFormed.{IsWellFormed}
 use Rattle.fr_script.specs.Sources.{sources}
 use Rattle.fr_meaning.specs.Texts.{Shown}

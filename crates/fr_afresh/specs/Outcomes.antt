@@ -1,5 +1,5 @@
 -- What code tells of an evaluation: all but its cost.
-use Rattle.std.specs.Prelude.{ℕ, List, [], ◌∷◌, ◌++◌, Option, None}
+use Rattle.std.specs.Prelude.{ℕ, [], ◌∷◌, ◌++◌, None}
 use Rattle.std.specs.Option.{option_or}
 use Rattle.fr_core.specs.declared.kept.Kept.{Kept}
 use Rattle.fr_core.specs.declared.kept.Kept.TheVariants as kept
@@ -13,12 +13,12 @@ use Rattle.fr_afresh.specs.declared.joining.Parts.{Parts}
 use Rattle.fr_afresh.specs.declared.joining.Turns.{Turns}
 
 -- what is told of an evaluation
-abbrev pub told : Evaluated → Done
-told d = record { value = d.value; kept = d.kept; first = d.first }
+abbrev pub without_cost : Evaluated → Done
+without_cost d = record { value = d.value; kept = d.kept; first = d.first }
 
 -- what is told of parts
-abbrev pub told_parts : EvaluatedParts → Parts
-told_parts ps = record { values = ps.values; around = record { kepts = ps.kepts; first = ps.first } }
+abbrev pub parts_without_cost : EvaluatedParts → Parts
+parts_without_cost ps = record { values = ps.values; around = record { kepts = ps.kepts; first = ps.first } }
 
 -- before the first part
 abbrev pub unbegun_around : Around
@@ -33,12 +33,12 @@ abbrev pub turns_on : Turns → LoopTurns → Turns
 turns_on t ts = record { value = ts.value; first = option_or t.first ts.first }
 
 -- the parts so far, and behind them what part number n keeps and its first error
-abbrev pub joined : Around → ℕ → Kept → First → Around
-joined a n k f = record { kepts = a.kepts ++ k ∷ []; first = option_or a.first (under n f) }
+abbrev pub with_kept : Around → ℕ → Kept → First → Around
+with_kept a n k f = record { kepts = a.kepts ++ k ∷ []; first = option_or a.first (under n f) }
 
 -- the parts so far, and behind them part number n
 abbrev pub with_part : Parts → ℕ → Done → Parts
-with_part p n d = record { values = p.values ++ d.value ∷ []; around = joined p.around n d.kept d.first }
+with_part p n d = record { values = p.values ++ d.value ∷ []; around = with_kept p.around n d.kept d.first }
 
 -- the parts so far, and behind them the first error of part number n, which keeps nothing
 abbrev pub erred : Around → ℕ → First → Around

@@ -5,7 +5,7 @@ use Rattle.fr_afresh.specs.declared.bodies.Progress.{Progress}
 use Rattle.fr_afresh.specs.Bodies.{all_good}
 
 -- what was done tells of items that were evaluated
-pub record Tells (p : Progress) (n : Evaluated) : Type 0 where
+pub record IsProgressOf (p : Progress) (n : Evaluated) : Type 0 where
   pub shown : p.shown ≡ n.shown
   pub kepts : p.around.kepts ≡ n.kepts
   pub first : p.around.first ≡ n.first
