@@ -5,5 +5,6 @@ pub mod Loops
 pub mod Numbers
 pub mod Placed
 pub mod Purity
+pub mod Runs
 pub mod Slots
 pub mod Tables

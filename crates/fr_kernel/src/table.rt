@@ -1,13 +1,8 @@
-ghost use Rattle.std.specs.Prelude.{◌≡◌, ◌+◌, ◌<◌, ◌++◌, ◌∷◌, [], IfOk, IfErr, Some, drop, length, slice_get, List};
-ghost use Rattle.fr_value.specs.declared.now.Now.{Now as AnyNow};
+ghost use Rattle.std.specs.Prelude.{◌≡◌, ◌<◌, [], IfOk, IfErr, length};
 ghost use Rattle.fr_core.specs.declared.core_form.Loop.TheVariants as loop;
-ghost use Rattle.fr_core.specs.declared.kept.Kept.{Kept};
-ghost use Rattle.fr_meaning.specs.Words.{Env};
-ghost use Rattle.fr_meaning.specs.Evaluation.{eval};
-ghost use Rattle.fr_kernel.specs.Answers.{Ran};
-ghost use Rattle.fr_kernel.specs.Kernels.{Kernel, AreInputs, AreOthers, inputs_of, kernel_for, world_at};
-ghost use Rattle.fr_kernel.specs.Loops.{loop_at};
+ghost use Rattle.fr_kernel.specs.Kernels.{kernel_for};
 ghost use Rattle.fr_kernel.specs.Purity.{IsPureOver};
+ghost use Rattle.fr_kernel.specs.Runs.{with_kernel, TakesInputs, TakesTurns, KernelRan, LoopRan};
 ghost use Rattle.fr_kernel.specs.Slots.{slots_of};
 
 use crate::fuel::{Fuel, KernStop};
@@ -89,9 +84,10 @@ impl KernTable {
     /// stand for.
     ///
     /// The expression is pure over the table's functions. The variables from `first` on, `params` of them, are the
-    /// parameters: they are the first slots, whether they are named or not. Behind them come the variables below `first`
-    /// that the expression names and then its sources, each once and in rising order. The variables that the expression
-    /// binds itself are numbered from `first` and `params` together on. Where there is no memory the table is unchanged.
+    /// parameters: the kernel's inputs begin with their values, whether they are named or not. Behind them come those of
+    /// the variables below `first` that the expression names and then of its sources, each once and in rising order. The
+    /// variables that the expression binds itself are numbered from `first` and `params` together on. It fails only where
+    /// there is no memory, and the table is then unchanged.
     pub fn add(
         &mut self,
         alloc: Global,
@@ -102,7 +98,7 @@ impl KernTable {
         requires pure { IsPureOver self.old.functions expr.now }
         ensures number { IfOk result (λ added. added.0.0 ≡ length self.old.kernels) }
         ensures slots { IfOk result (λ added. added.1 ≡ slots_of first expr.now) }
-        ensures appended { IfOk result (λ added. self.new ≡ record self.old { kernels = self.old.kernels ++ kernel_for first params expr.now ∷ [] }) }
+        ensures appended { IfOk result (λ added. self.new ≡ with_kernel self.old (kernel_for first params expr.now)) }
         ensures failed { IfErr result (λ e. self.new ≡ self.old) }
     {
         let names = Names::of(alloc, expr, first, params)?;
@@ -130,8 +126,8 @@ pub fn run_kern(
     fuel: &mut Fuel,
 ) -> Result<Now, KernStop>
     requires number { id.0 < length table.now.kernels }
-    requires inputs { (k : Kernel) → slice_get table.now.kernels id.0 ≡ Some k → length inputs.now ≡ inputs_of k }
-    ensures { (k : Kernel) (sources : List AnyNow) (env args : Env) → slice_get table.now.kernels id.0 ≡ Some k → AreInputs k sources env args inputs.now → (kept : Kept) → Ran result fuel.old.left fuel.new.left (eval (world_at table.now sources) nest k.expr (env ++ args) kept) }
+    requires inputs { TakesInputs table.now id.0 (length inputs.now) }
+    ensures { KernelRan table.now id.0 inputs.now nest fuel.old.left fuel.new.left result }
 {
     let kernel = &table.kernels.as_slice()[id.0 as usize];
     run(
@@ -160,8 +156,8 @@ pub fn run_fold(
     fuel: &mut Fuel,
 ) -> Result<Now, KernStop>
     requires number { body.0 < length table.now.kernels }
-    requires body { (k : Kernel) → slice_get table.now.kernels body.0 ≡ Some k → (k.params ≡ 2) × (length inputs.now ≡ 2 + length k.slots) }
-    ensures { (k : Kernel) (sources : List AnyNow) (env : Env) → slice_get table.now.kernels body.0 ≡ Some k → AreOthers k sources env (drop 2 inputs.now) → Ran result fuel.old.left fuel.new.left (loop_at (world_at table.now sources) nest loop.Fold k.expr env inputs.now) }
+    requires body { TakesTurns table.now body.0 loop.Fold (length inputs.now) }
+    ensures { LoopRan table.now body.0 loop.Fold inputs.now nest fuel.old.left fuel.new.left result }
 {
     let kernel = &table.kernels.as_slice()[body.0 as usize];
     run_loop(
@@ -190,8 +186,8 @@ pub fn run_repeat(
     fuel: &mut Fuel,
 ) -> Result<Now, KernStop>
     requires number { body.0 < length table.now.kernels }
-    requires body { (k : Kernel) → slice_get table.now.kernels body.0 ≡ Some k → (k.params ≡ 1) × (length inputs.now ≡ 2 + length k.slots) }
-    ensures { (k : Kernel) (sources : List AnyNow) (env : Env) → slice_get table.now.kernels body.0 ≡ Some k → AreOthers k sources env (drop 2 inputs.now) → Ran result fuel.old.left fuel.new.left (loop_at (world_at table.now sources) nest loop.Repeat k.expr env inputs.now) }
+    requires body { TakesTurns table.now body.0 loop.Repeat (length inputs.now) }
+    ensures { LoopRan table.now body.0 loop.Repeat inputs.now nest fuel.old.left fuel.new.left result }
 {
     let kernel = &table.kernels.as_slice()[body.0 as usize];
     run_loop(
