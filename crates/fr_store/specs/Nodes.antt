@@ -82,10 +82,10 @@ height_in None = 0
 height_in (Some n) = n.height
 
 -- The least height that is at least the floor and above each signal among the inputs.
-abbrev pub least_height : Stored → ℕ → List Held → ℕ
-least_height s floor [] = floor
-least_height s floor (Steady value ∷ inputs) = least_height s floor inputs
-least_height s floor (Signal id ∷ inputs) = max (height_in (node_at s id.0) + 1) (least_height s floor inputs)
+abbrev pub least_height : List (Option Node) → ℕ → List Held → ℕ
+least_height nodes floor [] = floor
+least_height nodes floor (Steady value ∷ inputs) = least_height nodes floor inputs
+least_height nodes floor (Signal id ∷ inputs) = least_height nodes (max floor (height_in (node_in nodes id.0) + 1)) inputs
 
 -- Each node that these inputs name is there.
 abbrev pub AreLive : Stored → List Held → Type 0

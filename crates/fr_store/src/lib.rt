@@ -4,10 +4,10 @@
 mod change;
 mod edges;
 mod inputs;
-mod links;
 mod node;
 mod store;
 mod table;
+mod wiring;
 
 pub use inputs::{Input, Inputs};
 pub use node::{Cell, Code, Node, NodeKind};

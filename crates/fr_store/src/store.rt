@@ -1,5 +1,6 @@
-ghost use Rattle.std.specs.Prelude.{◌≡◌, ℕ, ◌+◌, ◌^◌, ◌≤◌, ◌↔◌, [], Some, None, Err, IfOk, OnErr, IsSome, IsTrue, is_some, count_by, slice_get, length, replicate};
-ghost use Rattle.fr_store.specs.Nodes.{Edge, Stored, StandsAt, IsEdge, AreDependents, AreLive, AreLow, Makes, Renames, node_at, dependents_at, edge_number, new_node, least_height, computed, latched, rewired, tied, lifted, cleared, with_node};
+ghost use Rattle.std.specs.Prelude.{◌≡◌, ℕ, ◌+◌, ◌^◌, ◌≤◌, ◌↔◌, [], ◌∷◌, true, Some, None, Err, IfOk, OnErr, IsSome, IsTrue, is_some, count_by};
+ghost use Rattle.fr_store.specs.Kept.{KeepsInputs, changed, nodes_of};
+ghost use Rattle.fr_store.specs.Nodes.{Edge, Stored, StandsAt, IsEdge, AreDependents, AreLive, AreLow, Makes, Renames, node_at, node_in, height_in, reads, dependents_at, edge_number, new_node, least_height, computed, latched, rewired, tied, lifted, cleared, with_node};
 
 use crate::change::Change;
 use crate::edges::Edges;
@@ -88,11 +89,32 @@ impl Store {
         requires live { AreLive self.old inputs.now }
         requires low { AreLow self.old inputs.now }
         requires floor { floor ≤ 2 ^ 120 }
-        ensures made { IfOk result (λ id. Makes self.old self.new id.0 (new_node kind inputs.now era (least_height self.old floor inputs.now) nest instant)) }
+        ensures made { IfOk result (λ id. Makes self.old self.new id.0 (new_node kind inputs.now era (least_height self.old.nodes floor inputs.now) nest instant)) }
         ensures too_many { (result ≡ Err MakeStop.TooMany) ↔ (count_by is_some self.old.nodes ≡ self.old.limit) }
         ensures err { OnErr result (self.new ≡ self.old) }
     {
-        unreachable!()
+        if self.table.count == self.limit {
+            return Err(MakeStop::TooMany);
+        }
+        let height = least_height(&self.table, floor, inputs);
+        let inputs = Inputs::of(self.alloc, inputs)?;
+        self.table.reserve()?;
+        let number = self.table.next();
+        self.edges.widen(number, inputs.len())?;
+        self.edges.wire(number, &inputs);
+        let id = self.table.put(Node {
+            kind,
+            inputs,
+            source: None,
+            value: Now::Plain(Value::Bool(false)),
+            cell: None,
+            height,
+            stamp: None,
+            born: instant,
+            nest,
+            era,
+        });
+        Ok(id)
     }
 
     /// Writes what a node computed at an instant.
@@ -113,10 +135,13 @@ impl Store {
 
     /// Makes this the only input of a node, which is the result of a watch.
     pub fn rewire(&mut self, id: NodeId, input: Held)
-        requires { IsSome (node_at self.old id.0) }
+        requires there { IsSome (node_at self.old id.0) }
+        requires live { AreLive self.old (input ∷ []) }
         ensures { (n : Node) → node_at self.old id.0 ≡ Some n → Renames self.old self.new id.0 (rewired n input) }
     {
-        unreachable!()
+        let inputs = Inputs::one(self.alloc, input);
+        self.edges.wire(id.0 as usize, &inputs);
+        self.table.change(id, Change::Inputs(inputs));
     }
 
     /// Gives a delay or a feedback its source.
@@ -140,7 +165,8 @@ impl Store {
         requires { IsSome (node_at self.old id.0) }
         ensures { (n : Node) → node_at self.old id.0 ≡ Some n → Renames self.old self.new id.0 (cleared n) }
     {
-        unreachable!()
+        self.edges.wire(id.0 as usize, &Inputs::none(self.alloc));
+        self.table.change(id, Change::Cleared(self.alloc));
     }
 
     /// Frees the number of a node without inputs.
@@ -148,7 +174,7 @@ impl Store {
         requires { (n : Node) × (node_at self.old id.0 ≡ Some n) × (n.inputs ≡ []) }
         ensures { self.new ≡ with_node self.old id.0 None }
     {
-        unreachable!()
+        self.table.remove(id);
     }
 
     /// The node of a number.
@@ -156,7 +182,10 @@ impl Store {
         requires { IsSome (node_at self.now id.0) }
         ensures { node_at self.now id.0 ≡ Some result.now }
     {
-        unreachable!()
+        match self.table.get(id) {
+            Some(node) => node,
+            None => unreachable!(),
+        }
     }
 
     /// The value of a node.
@@ -171,7 +200,7 @@ impl Store {
     pub fn live(&self, id: NodeId) -> bool
         ensures { IsTrue result ↔ IsSome (node_at self.now id.0) }
     {
-        unreachable!()
+        self.table.get(id).is_some()
     }
 
     /// How many nodes there are.
@@ -180,7 +209,7 @@ impl Store {
         ensures below { result ≤ self.now.limit }
         ensures limit { self.now.limit ≤ 4194304 }
     {
-        unreachable!()
+        self.table.count
     }
 
     /// The first edge of a node, or None exactly where no place names it. The edges are exactly the places that name it.
@@ -189,7 +218,7 @@ impl Store {
         ensures first { result ≡ edge_number (dependents_at self.now id.0) 0 }
         ensures exact { AreDependents self.now id.0 (dependents_at self.now id.0) }
     {
-        unreachable!()
+        self.edges.links.first(id.0 as usize)
     }
 
     /// The edge after one, or None exactly where that is the last of its node.
@@ -197,7 +226,7 @@ impl Store {
         requires { IsEdge self.now edge }
         ensures { (i place : ℕ) (e : Edge) → StandsAt self.now edge i place e → result ≡ edge_number (dependents_at self.now i) (place + 1) }
     {
-        unreachable!()
+        self.edges.links.next(edge)
     }
 
     /// The node whose place an edge is.
@@ -205,6 +234,40 @@ impl Store {
         requires { IsEdge self.now edge }
         ensures { (i place : ℕ) (e : Edge) → StandsAt self.now edge i place e → result.0 ≡ e.node }
     {
-        unreachable!()
+        NodeId(self.edges.owners[edge])
+    }
+
+    /// Writes what leaves a node's inputs as they are.
+    fn change(&mut self, id: NodeId, change: Change)
+        requires there { IsSome (node_at self.old id.0) }
+        requires inputs { KeepsInputs change }
+        ensures { (n : Node) → node_at self.old id.0 ≡ Some n → self.new ≡ with_node self.old id.0 (Some (changed change n)) }
+    {
+        self.table.change(id, change);
+    }
+}
+
+fn least_height(table: &Table, floor: u128, inputs: &[Held]) -> u128
+    requires live { (i : ℕ) → reads i inputs.now ≡ true → IsSome (node_in (nodes_of table.now) i) }
+    requires low { (i : ℕ) (n : Node) → reads i inputs.now ≡ true → node_in (nodes_of table.now) i ≡ Some n → n.height ≤ 2 ^ 120 }
+    requires floor { floor ≤ 2 ^ 120 }
+    ensures { result ≡ least_height (nodes_of table.now) floor inputs.now }
+{
+    let mut height = floor;
+    for input in inputs {
+        if let Held::Signal(id) = input {
+            height = height.max(height_of(table, *id) + 1);
+        }
+    }
+    height
+}
+
+/// The height of a node, and 0 where there is none.
+fn height_of(table: &Table, id: NodeId) -> u128
+    ensures { result ≡ height_in (node_in (nodes_of table.now) id.0) }
+{
+    match table.get(id) {
+        Some(node) => node.height,
+        None => 0,
     }
 }
