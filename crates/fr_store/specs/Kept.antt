@@ -1,5 +1,5 @@
 -- How a store keeps its nodes and edges.
-use Rattle.std.specs.Prelude.{◌≡◌, ℕ, ◌+◌, ◌-◌, ◌^◌, ◌<◌, ◌≤◌, ◌⊎◌, List, [], ◌∷◌, length, map, slice_get, slice_index_or, slice_set, Option, Some, None, IsSome, true, false, is_some, count_by, vec_len, vec_capacity}
+use Rattle.std.specs.Prelude.{◌≡◌, ℕ, ◌+◌, ◌-◌, ◌^◌, ◌<◌, ◌≤◌, ◌⊎◌, List, [], ◌∷◌, length, map, slice_get, slice_index_or, slice_set, Option, Some, None, IsSome, true, false, is_some, count_by, vec_capacity}
 use Rattle.fr_links.specs.Lists.{has_item, list_at}
 use Rattle.fr_links.specs.Rings.{AllDifferent}
 use Rattle.fr_value.specs.declared.now.Held.{Held}
@@ -40,23 +40,23 @@ nodes_of t = map (node_under t.nodes) t.keys.items
 
 -- The number that the next node gets: the last that was freed, or a new one.
 abbrev pub next_number : Table → ℕ
-next_number t = slice_index_or t.free.items (vec_len t.free - 1) (vec_len t.keys)
+next_number t = slice_index_or t.free.items (length t.free.items - 1) (length t.keys.items)
 
 -- Each key is one number's and has a node, and the free numbers are listed once each.
 pub record IsTable (t : Table) : Type 0 where
-  pub few : vec_len t.keys ≤ 4194304
+  pub few : length t.keys.items ≤ 4194304
   pub keyed : (i key : ℕ) → key_at t.keys.items i ≡ Some key → IsSome (get t.nodes key)
   pub once : (i j key : ℕ) → key_at t.keys.items i ≡ Some key → key_at t.keys.items j ≡ Some key → i ≡ j
   pub counted : t.count ≡ count_by is_some (nodes_of t)
-  pub free : (i : ℕ) → has_item t.free.items i ≡ true → (i < vec_len t.keys) × (key_at t.keys.items i ≡ None)
+  pub free : (i : ℕ) → has_item t.free.items i ≡ true → (i < length t.keys.items) × (key_at t.keys.items i ≡ None)
   pub free_once : AllDifferent t.free.items
-  pub whole : t.count + vec_len t.free ≡ vec_len t.keys
-  pub room : vec_len t.keys ≤ vec_capacity t.free
+  pub whole : t.count + length t.free.items ≡ length t.keys.items
+  pub room : length t.keys.items ≤ vec_capacity t.free
 
 -- There is memory for one more node.
 pub record IsReady (t : Table) : Type 0 where
-  pub keys : vec_len t.keys + 1 ≤ vec_capacity t.keys
-  pub free : vec_len t.keys + 1 ≤ vec_capacity t.free
+  pub keys : length t.keys.items + 1 ≤ vec_capacity t.keys
+  pub free : length t.keys.items + 1 ≤ vec_capacity t.free
   pub nodes : HasRoomFor t.nodes 1
   pub key : t.nodes.vacant_key < 2 ^ 32
 
@@ -89,12 +89,12 @@ pub record IsPlace (runs : List Run) (edge : ℕ) : Type 0 where
 
 -- Each edge of a number knows it, and only such edges are in lists.
 pub record AreEdges (e : Edges) : Type 0 where
-  pub runs : (i : ℕ) → i < vec_len e.runs → (4 ≤ room_at e.runs.items i) × (first_at e.runs.items i + room_at e.runs.items i ≤ vec_len e.owners)
-  pub owned : (i place : ℕ) → i < vec_len e.runs → place < room_at e.runs.items i → slice_get e.owners.items (first_at e.runs.items i + place) ≡ Some i
+  pub runs : (i : ℕ) → i < length e.runs.items → (4 ≤ room_at e.runs.items i) × (first_at e.runs.items i + room_at e.runs.items i ≤ length e.owners.items)
+  pub owned : (i place : ℕ) → i < length e.runs.items → place < room_at e.runs.items i → slice_get e.owners.items (first_at e.runs.items i + place) ≡ Some i
   pub inside : (l edge : ℕ) → has_item (list_at e.links.lists l) edge ≡ true → IsPlace e.runs.items edge
-  pub lists : vec_len e.runs ≤ length e.links.lists
-  pub items : vec_len e.owners ≤ e.links.items
-  pub small : vec_len e.owners ≤ 2 ^ 31
+  pub lists : length e.runs.items ≤ length e.links.lists
+  pub items : length e.owners.items ≤ e.links.items
+  pub small : length e.owners.items ≤ 2 ^ 31
 
 -- The edges are the same.
 pub record SameEdges (old new : Edges) : Type 0 where
@@ -104,10 +104,10 @@ pub record SameEdges (old new : Edges) : Type 0 where
 
 -- A number has edges for so many places, none of which is in a list, and all else is the same.
 pub record Widened (old new : Edges) (number places : ℕ) : Type 0 where
-  pub there : number < vec_len new.runs
-  pub len : (vec_len new.runs ≡ vec_len old.runs) ⊎ ((number ≡ vec_len old.runs) × (vec_len new.runs ≡ vec_len old.runs + 1))
+  pub there : number < length new.runs.items
+  pub len : (length new.runs.items ≡ length old.runs.items) ⊎ ((number ≡ length old.runs.items) × (length new.runs.items ≡ length old.runs.items + 1))
   pub wide : places ≤ room_at new.runs.items number
-  pub others : (i : ℕ) → i < vec_len old.runs → (i ≡ number → ⊥) → slice_get new.runs.items i ≡ slice_get old.runs.items i
+  pub others : (i : ℕ) → i < length old.runs.items → (i ≡ number → ⊥) → slice_get new.runs.items i ≡ slice_get old.runs.items i
   pub lists : (l : ℕ) → list_at new.links.lists l ≡ list_at old.links.lists l
   pub idle : (l place : ℕ) → place < room_at new.runs.items number → has_item (list_at new.links.lists l) (first_at new.runs.items number + place) ≡ false
 
@@ -134,9 +134,9 @@ inputs_in (Some n) = n.inputs
 -- No more numbers than the limit, edges for each, and each edge in the list of what its place names.
 pub record IsStore (limit : ℕ) (table : Table) (edges : Edges) : Type 0 where
   pub small : limit ≤ 4194304
-  pub few : vec_len table.keys ≤ limit
+  pub few : length table.keys.items ≤ limit
   pub table : IsTable table
   pub edges : AreEdges edges
-  pub runs : vec_len edges.runs ≡ vec_len table.keys
+  pub runs : length edges.runs.items ≡ length table.keys.items
   pub enough : (i : ℕ) → length (inputs_in (node_in (nodes_of table) i)) ≤ room_at edges.runs.items i
-  pub listed : (l i place : ℕ) → i < vec_len edges.runs → place < room_at edges.runs.items i → has_item (list_at edges.links.lists l) (first_at edges.runs.items i + place) ≡ is_number (signal_at (inputs_in (node_in (nodes_of table) i)) place) l
+  pub listed : (l i place : ℕ) → i < length edges.runs.items → place < room_at edges.runs.items i → has_item (list_at edges.links.lists l) (first_at edges.runs.items i + place) ≡ is_number (signal_at (inputs_in (node_in (nodes_of table) i)) place) l

@@ -3,6 +3,7 @@ use Rattle.std.specs.Prelude.{◌≡◌, ℕ, ◌+◌, ◌-◌, ◌*◌, ◌^◌
 use Rattle.std.specs.Option.{option_map}
 use Rattle.std.specs.Coded.{Coded, code_by, coded×, coded_ℕ, coded_list, coded_option}
 use Rattle.fr_value.specs.declared.ids.EraId.{EraId}
+use Rattle.fr_value.specs.declared.ids.NodeId.{NodeId}
 use Rattle.fr_value.specs.declared.now.Held.{Held}
 use Rattle.fr_value.specs.declared.now.Held.TheVariants.{Steady, Signal}
 use Rattle.fr_value.specs.declared.now.Now.{Now}
@@ -60,6 +61,11 @@ is_watch _ = false
 abbrev pub is_number : Option ℕ → ℕ → Bool
 is_number None i = false
 is_number (Some j) i = nat_eq j i
+
+-- The number of a node, if there is one.
+abbrev pub number_of : Option NodeId → Option ℕ
+number_of None = None
+number_of (Some id) = Some id.0
 
 -- The node that this part names, if it is a signal.
 abbrev pub named : Option Held → Option ℕ

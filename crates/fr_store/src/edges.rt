@@ -1,4 +1,4 @@
-ghost use Rattle.std.specs.Prelude.{◌≡◌, ℕ, ◌+◌, ◌^◌, ◌<◌, ◌≤◌, [], false, Some, OnOk, OnErr, IsOk, length, vec_len};
+ghost use Rattle.std.specs.Prelude.{◌≡◌, ℕ, ◌+◌, ◌^◌, ◌<◌, ◌≤◌, [], false, Some, OnOk, OnErr, IsOk, length};
 ghost use Rattle.fr_links.specs.Lists.{has_item, list_at};
 ghost use Rattle.fr_store.specs.Nodes.{signal_at};
 ghost use Rattle.fr_store.specs.Kept.{AreEdges, SameEdges, Widened, Wires, first_at, room_at};
@@ -58,7 +58,7 @@ impl Edges {
     /// Takes the memory for so many places of a number that names none. An error leaves all as it was.
     pub(crate) fn widen(&mut self, number: usize, places: usize) -> Result<(), AllocError>
         requires sound { AreEdges self.old }
-        requires near { number ≤ vec_len self.old.runs }
+        requires near { number ≤ length self.old.runs.items }
         requires few { number < 4194304 }
         requires idle { (l p : ℕ) → p < room_at self.old.runs.items number → has_item (list_at self.old.links.lists l) (first_at self.old.runs.items number + p) ≡ false }
         ensures sound { AreEdges self.new }
@@ -91,7 +91,7 @@ impl Edges {
     /// Makes the places of a number name what these inputs name.
     pub(crate) fn wire(&mut self, number: usize, inputs: &Inputs)
         requires sound { AreEdges self.old }
-        requires there { number < vec_len self.old.runs }
+        requires there { number < length self.old.runs.items }
         requires room { length inputs.now ≤ room_at self.old.runs.items number }
         requires lists { (l p : ℕ) → signal_at inputs.now p ≡ Some l → l < length self.old.links.lists }
         ensures sound { AreEdges self.new }

@@ -1,7 +1,7 @@
-ghost use Rattle.std.specs.Prelude.{◌≡◌, [], ◌∷◌, length, map, IfOk, IfSome, slice_get};
+ghost use Rattle.std.specs.Prelude.{◌≡◌, [], ◌∷◌, length, IfOk, IfSome, slice_get};
 ghost use Rattle.std.specs.Option.{option_map};
-ghost use Rattle.fr_store.specs.Nodes.{signal_at};
-ghost use Rattle.fr_store.specs.Rows.{held_of};
+ghost use Rattle.fr_store.specs.Nodes.{number_of, signal_at};
+ghost use Rattle.fr_store.specs.Rows.{held_of, signals};
 
 use fr_value::{Held, NodeId, Value};
 use smallvec::SmallVec;
@@ -17,13 +17,15 @@ pub struct Inputs {
 /// The inputs by what is among them.
 #[derive(Drop)]
 enum Row {
-    Signals(SmallVec<NodeId, 4>),
+    /// Signals alone, by the numbers of their nodes.
+    Signals(SmallVec<u32, 4>),
     /// The only input, a steady value.
     Steady(Value),
     Mixed(Vec<Held>),
 }
 
 /// An input as it is read.
+#[derive(Clone, Copy)]
 pub enum Input<'a> {
     /// A value that never changes.
     Steady(&'a Value),
@@ -66,7 +68,7 @@ impl Inputs {
             },
             Held::Signal(id) => {
                 let mut ids = SmallVec::new(alloc);
-                ids.push_reserved(id);
+                ids.push_reserved(id.0);
                 Inputs {
                     row: Row::Signals(ids),
                 }
@@ -108,7 +110,7 @@ impl Inputs {
         ensures { option_map held_of result ≡ slice_get self.now place }
     {
         match &self.row {
-            Row::Signals(ids) => Some(Input::Signal(*ids.as_slice().get(place)?)),
+            Row::Signals(ids) => Some(Input::Signal(NodeId(*ids.as_slice().get(place)?))),
             Row::Steady(value) => {
                 if place == 0 {
                     Some(Input::Steady(value))
@@ -122,7 +124,7 @@ impl Inputs {
 
     /// The node whose value is the input at a place, or None where there is none or the input is steady.
     pub fn signal(&self, place: usize) -> Option<NodeId>
-        ensures { option_map (λ id. id.0) result ≡ signal_at self.now place }
+        ensures { number_of result ≡ signal_at self.now place }
     {
         match self.get(place) {
             Some(Input::Signal(id)) => Some(id),
@@ -140,14 +142,14 @@ fn read(input: &Held) -> Input<'_>
     }
 }
 
-/// The nodes where all inputs are signals, and else None.
-fn signals_of(alloc: Global, inputs: &[Held]) -> Result<Option<SmallVec<NodeId, 4>>, AllocError>
-    ensures { IfOk result (λ found. IfSome found (λ ids. map Held.Signal ids.items ≡ inputs.now)) }
+/// The nodes' numbers where all inputs are signals, and else None.
+fn signals_of(alloc: Global, inputs: &[Held]) -> Result<Option<SmallVec<u32, 4>>, AllocError>
+    ensures { IfOk result (λ found. IfSome found (λ ids. signals ids.items ≡ inputs.now)) }
 {
     let mut ids = SmallVec::new(alloc);
     for input in inputs {
         match input {
-            Held::Signal(id) => ids.push(*id)?,
+            Held::Signal(id) => ids.push(id.0)?,
             Held::Steady(_) => return Ok(None),
         }
     }

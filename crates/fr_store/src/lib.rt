@@ -12,3 +12,6 @@ mod wiring;
 pub use inputs::{Input, Inputs};
 pub use node::{Cell, Code, Node, NodeKind};
 pub use store::{MakeStop, Store};
+
+#[cfg(test)]
+mod tests;

@@ -1,4 +1,4 @@
-ghost use Rattle.std.specs.Prelude.{◌≡◌, ℕ, ◌+◌, ◌<◌, ◌≤◌, ◌↔◌, [], Some, None, OnOk, OnErr, IsSome, length, slice_set, vec_len};
+ghost use Rattle.std.specs.Prelude.{◌≡◌, ℕ, ◌+◌, ◌<◌, ◌≤◌, ◌↔◌, [], Some, None, OnOk, OnErr, IsSome, length, slice_set};
 ghost use Rattle.std.specs.Option.{option_copied};
 ghost use Rattle.fr_store.specs.Nodes.{node_in, placed};
 ghost use Rattle.fr_store.specs.Kept.{IsTable, IsReady, SameTable, SameNumbers, changed, key_at, next_number, nodes_of};
@@ -118,7 +118,7 @@ impl Table {
         requires sound { IsTable self.old }
         requires there { IsSome (node_in (nodes_of self.old) id.0) }
         ensures sound { IsTable self.new }
-        ensures len { vec_len self.new.keys ≡ vec_len self.old.keys }
+        ensures len { length self.new.keys.items ≡ length self.old.keys.items }
         ensures count { self.new.count + 1 ≡ self.old.count }
         ensures removed { nodes_of self.new ≡ slice_set (nodes_of self.old) id.0 None }
     {
