@@ -1,3 +1,5 @@
+pub mod Dependents
 pub mod Lists
 pub mod Tables
+pub mod Widening
 pub mod Wiring

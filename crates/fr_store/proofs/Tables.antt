@@ -1,11 +1,12 @@
 -- A table of nodes through its changes.
-use Rattle.std.proofs.Common.{◌≡◌, ◌≢◌, ℕ, zero, suc, ◌+◌, ◌-◌, ◌<◌, ◌≤◌, List, [], ◌∷◌, ◌++◌, length, map, replicate, ◌⊎◌, inl, inr, Option, Some, None, IsSome, Bool, true, false, cond, is_some, count_by, vec_capacity, get_or, slice_set, slice_index_or, refl, sym, ap, ◌∙◌, subst, arith, get_or-set_same, get_or-set_other, length-set, length-append}
-use Rattle.std.proofs.lemmas.List.{get_or-map, get_or_past, length-map, same_lists}
+use Rattle.std.proofs.Common.{◌≡◌, ◌≢◌, ℕ, zero, suc, ◌+◌, ◌-◌, ◌<◌, ◌≤◌, List, [], ◌∷◌, ◌++◌, length, map, replicate, ◌⊎◌, inl, inr, Option, Some, None, IsSome, Bool, true, false, nat_eq, cond, is_some, count_by, vec_capacity, get_or, slice_set, slice_index_or, refl, sym, ap, ◌∙◌, subst, arith, get_or-set_same, get_or-set_other, length-set, length-append}
+use Rattle.std.proofs.lemmas.List.{append-nil, get_or-map, get_or_past, length-map, same_lists}
 use Rattle.std.proofs.lemmas.List.Sums.{sum_by-set, sum_by_push}
 use Rattle.slab.specs.Slab.{Slab, get, with_value, Updates}
 use Rattle.slab.proofs.SlabLemmas.{Updates-with_value}
 use Rattle.fr_links.specs.Lists.{has_item}
 use Rattle.fr_links.specs.Rings.{AllDifferent}
+use Rattle.fr_links.proofs.Has.{by_truth, cons_absent, different_push, eq_is, has_append_cases, has_append_left, has_append_right, here, or_case, true_false}
 use Rattle.fr_store.specs.declared.node.Node.{Node}
 use Rattle.fr_store.specs.declared.table.Table.{Table}
 use Rattle.fr_store.specs.Nodes.{node_in, placed}
@@ -150,3 +151,285 @@ table_written old new i key m t e room at written =
       | inl same ↦ ap (λ (x : ℕ). is_some (get new.nodes x)) same ∙ ap is_some updated.changed
       | inr ne ↦ ap is_some (updated.others k ne) ∙ h
     ]
+
+pub placed_within : (nodes : List (Option Node)) (i : ℕ) (n : Node) → i < length nodes → placed nodes i n ≡ slice_set nodes i (Some n)
+placed_within nodes i n lt =
+    let none : i + 1 - length nodes ≡ 0 = omega arith in
+    ap (λ (k : ℕ). slice_set (nodes ++ replicate k None) i (Some n)) none ∙ ap (λ (l : List (Option Node)). slice_set l i (Some n)) (append-nil nodes)
+
+pub placed_behind : (nodes : List (Option Node)) (n : Node) → placed nodes (length nodes) n ≡ nodes ++ Some n ∷ []
+placed_behind nodes n =
+    let one : length nodes + 1 - length nodes ≡ 1 = omega arith in
+    ap (λ (k : ℕ). slice_set (nodes ++ replicate k None) (length nodes) (Some n)) one ∙ at_end nodes
+  where
+    at_end : (l : List (Option Node)) → slice_set (l ++ None ∷ []) (length l) (Some n) ≡ l ++ Some n ∷ []
+    at_end [] = refl
+    at_end (o ∷ l) = ap (λ (k : List (Option Node)). o ∷ k) (at_end l)
+
+-- what a table is after a node was put at a number that was free
+pub record Reused (old new : Table) (i key : ℕ) (n : Node) : Type 0 where
+  pub free : old.free.items ≡ new.free.items ++ i ∷ []
+  pub keys : new.keys.items ≡ slice_set old.keys.items i (Some key)
+  pub vacant : get old.nodes key ≡ None
+  pub nodes : Updates old.nodes new.nodes key (Some n)
+  pub count : new.count ≡ old.count + 1
+  pub room : vec_capacity new.free ≡ vec_capacity old.free
+
+-- what a table is after a node was put at a new number
+pub record Added (old new : Table) (key : ℕ) (n : Node) : Type 0 where
+  pub none : old.free.items ≡ []
+  pub free : new.free.items ≡ []
+  pub keys : new.keys.items ≡ old.keys.items ++ Some key ∷ []
+  pub vacant : get old.nodes key ≡ None
+  pub nodes : Updates old.nodes new.nodes key (Some n)
+  pub count : new.count ≡ old.count + 1
+  pub few : old.count < 4194304
+  pub room : length old.keys.items + 1 ≤ vec_capacity new.free
+
+-- what a table is after a node was taken out
+pub record Freed (old new : Table) (i key : ℕ) : Type 0 where
+  pub at : key_at old.keys.items i ≡ Some key
+  pub free : new.free.items ≡ old.free.items ++ i ∷ []
+  pub keys : new.keys.items ≡ slice_set old.keys.items i None
+  pub nodes : Updates old.nodes new.nodes key None
+  pub count : new.count + 1 ≡ old.count
+  pub room : vec_capacity new.free ≡ vec_capacity old.free
+
+-- the last of a list in which no number stands twice
+split_last : (xs : List ℕ) (x : ℕ) → AllDifferent (xs ++ x ∷ []) → AllDifferent xs × (has_item xs x ≡ false)
+split_last [] x d = (tt, refl)
+split_last (y ∷ xs) x d =
+    let r = split_last xs x d.1 in
+    let n = append_absent xs x y d.0 in
+    ((n.0, r.0), cons_absent y xs x n.1 r.1)
+  where
+    append_absent : (xs : List ℕ) (x y : ℕ) → has_item (xs ++ x ∷ []) y ≡ false → (has_item xs y ≡ false) × (y ≢ x)
+    append_absent xs x y n =
+        (absent_of xs y (λ h. has_append_left xs (x ∷ []) y h) n,
+         λ e. true_false (has_item (xs ++ x ∷ []) y) (subst (λ (k : ℕ). has_item (xs ++ x ∷ []) k ≡ true) (sym e) (has_append_right xs (x ∷ []) x (here x []))) n)
+      where
+        absent_of : (xs : List ℕ) (y : ℕ) → (has_item xs y ≡ true → has_item (xs ++ x ∷ []) y ≡ true) → has_item (xs ++ x ∷ []) y ≡ false → has_item xs y ≡ false
+        absent_of xs y f n = elim (by_truth (has_item xs y)) [
+          | inl h ↦ true_false (has_item (xs ++ x ∷ []) y) (f h) n
+          | inr a ↦ a
+        ]
+
+module _ (old new : Table) (i key : ℕ) (n : Node) (t : IsTable old) (r : Reused old new i key n) where
+  listed : has_item old.free.items i ≡ true
+  listed = subst (λ (fs : List ℕ). has_item fs i ≡ true) (sym r.free) (has_append_right new.free.items (i ∷ []) i (here i []))
+
+  was_free : (i < length old.keys.items) × (key_at old.keys.items i ≡ None)
+  was_free = t.free i listed
+
+  rest : AllDifferent new.free.items × (has_item new.free.items i ≡ false)
+  rest = split_last new.free.items i (subst AllDifferent r.free t.free_once)
+
+  key_here : key_at new.keys.items i ≡ Some key
+  key_here = ap (λ (ks : List (Option ℕ)). key_at ks i) r.keys ∙ get_or-set_same old.keys.items i (Some key) None was_free.0
+
+  key_other : (j : ℕ) → j ≢ i → key_at new.keys.items j ≡ key_at old.keys.items j
+  key_other j ne = ap (λ (ks : List (Option ℕ)). key_at ks j) r.keys ∙ get_or-set_other old.keys.items i j (Some key) None ne
+
+  long : length new.keys.items ≡ length old.keys.items
+  long = ap length r.keys ∙ length-set old.keys.items i (Some key)
+
+  -- no number had the new key
+  apart : (j k : ℕ) → key_at old.keys.items j ≡ Some k → k ≢ key
+  apart j k at e = none_some (get old.nodes k) (some_of (get old.nodes k) (t.keyed j k at)).0 (ap (get old.nodes) e ∙ r.vacant) (some_of (get old.nodes k) (t.keyed j k at)).1
+
+  pub reused_nodes : nodes_of new ≡ slice_set (nodes_of old) i (Some n)
+  reused_nodes =
+      nodes_set (node_under old.nodes) (node_under new.nodes) old.keys.items new.keys.items i (Some n) long was_free.0
+      (ap (node_under new.nodes) key_here ∙ r.nodes.changed)
+      (λ j ne lt. ap (node_under new.nodes) (key_other j ne) ∙ under_other old.nodes new.nodes key (Some n) r.nodes (key_at old.keys.items j) (λ k is. apart j k is))
+
+  pub reused_placed : nodes_of new ≡ placed (nodes_of old) i n
+  reused_placed = reused_nodes ∙ sym (placed_within (nodes_of old) i n (subst (λ (m : ℕ). i < m) (sym (length-map old.keys.items (node_under old.nodes))) was_free.0))
+
+  -- a key is the new one at the number, and else one that was
+  by_key : {A : Type 0} (j k : ℕ) → key_at new.keys.items j ≡ Some k → (j ≡ i → k ≡ key → A) → (j ≢ i → key_at old.keys.items j ≡ Some k → A) → A
+  by_key j k at f g = elim (by_number j i) [
+    | inl e ↦ f e (some_same k key (sym at ∙ ap (λ (x : ℕ). key_at new.keys.items x) e ∙ key_here))
+    | inr ne ↦ g ne (sym (key_other j ne) ∙ at)
+  ]
+
+  pub reused_table : IsTable new
+  reused_table = record {
+      few = subst (λ (m : ℕ). m ≤ 4194304) (sym long) t.few;
+      keyed = λ j k at. by_key j k at
+        (λ e same. ap (λ (x : ℕ). is_some (get new.nodes x)) same ∙ ap is_some r.nodes.changed)
+        (λ ne was. ap is_some (r.nodes.others k (apart j k was)) ∙ t.keyed j k was);
+      once = λ j m k a b. by_key j k a
+        (λ e same. by_key m k b (λ f _. e ∙ sym f) (λ ne was. absurd (apart m k was same)))
+        (λ ne was. by_key m k b (λ f same. absurd (apart j k was same)) (λ _ other. t.once j m k was other));
+      counted =
+        let lt : i < length (nodes_of old) = subst (λ (m : ℕ). i < m) (sym (length-map old.keys.items (node_under old.nodes))) was_free.0 in
+        let c = count_set (nodes_of old) i (Some n) lt in
+        let had : cond (is_some (node_in (nodes_of old) i)) 1 0 ≡ 0 =
+          ap (λ (o : Option Node). cond (is_some o) 1 0) (node_by_key old.nodes old.keys.items i ∙ ap (node_under old.nodes) was_free.1) in
+        more new.count old.count (count_by is_some (nodes_of old)) (count_by is_some (slice_set (nodes_of old) i (Some n))) (cond (is_some (node_in (nodes_of old) i)) 1 0)
+          r.count t.counted had c ∙ sym (ap (count_by is_some) reused_nodes);
+      free = λ j h.
+        let f = t.free j (subst (λ (fs : List ℕ). has_item fs j ≡ true) (sym r.free) (has_append_left new.free.items (i ∷ []) j h)) in
+        (subst (λ (m : ℕ). j < m) (sym long) f.0,
+         key_other j (λ e. true_false (has_item new.free.items j) h (ap (λ (x : ℕ). has_item new.free.items x) e ∙ rest.1)) ∙ f.1);
+      free_once = rest.0;
+      whole =
+        let a = r.count in
+        let b : length old.free.items ≡ length new.free.items + 1 = ap length r.free ∙ length-append new.free.items (i ∷ []) in
+        let d = long in
+        let w = t.whole in
+        omega arith;
+      room =
+        let a = r.room in
+        let d = long in
+        let w = t.room in
+        omega arith;
+    }
+    where
+      more : (new_count old_count old_some new_some x : ℕ) → new_count ≡ old_count + 1 → old_count ≡ old_some → x ≡ 0 → new_some + x ≡ old_some + 1 → new_count ≡ new_some
+      more a b d e x f g h k = omega arith
+
+module _ (old new : Table) (key : ℕ) (n : Node) (t : IsTable old) (r : Added old new key n) where
+  new_apart : (j k : ℕ) → key_at old.keys.items j ≡ Some k → k ≢ key
+  new_apart j k at e = none_some (get old.nodes k) (some_of (get old.nodes k) (t.keyed j k at)).0 (ap (get old.nodes) e ∙ r.vacant) (some_of (get old.nodes k) (t.keyed j k at)).1
+
+  new_here : key_at new.keys.items (length old.keys.items) ≡ Some key
+  new_here = ap (λ (ks : List (Option ℕ)). key_at ks (length old.keys.items)) r.keys ∙ at_end old.keys.items
+    where
+      at_end : (ks : List (Option ℕ)) → key_at (ks ++ Some key ∷ []) (length ks) ≡ Some key
+      at_end [] = refl
+      at_end (k ∷ ks) = at_end ks
+
+  new_other : (j : ℕ) → j ≢ length old.keys.items → key_at new.keys.items j ≡ key_at old.keys.items j
+  new_other j ne = ap (λ (ks : List (Option ℕ)). key_at ks j) r.keys ∙ before old.keys.items j ne
+    where
+      before : (ks : List (Option ℕ)) (j : ℕ) → j ≢ length ks → key_at (ks ++ Some key ∷ []) j ≡ key_at ks j
+      before [] zero ne = absurd (ne refl)
+      before [] (suc j) ne = refl
+      before (k ∷ ks) zero ne = refl
+      before (k ∷ ks) (suc j) ne = before ks j (λ e. ne (ap suc e))
+
+  new_long : length new.keys.items ≡ length old.keys.items + 1
+  new_long = ap length r.keys ∙ length-append old.keys.items (Some key ∷ [])
+
+  pub added_nodes : nodes_of new ≡ nodes_of old ++ Some n ∷ []
+  added_nodes =
+      ap (map (node_under new.nodes)) r.keys
+      ∙ nodes_push (node_under old.nodes) (node_under new.nodes) old.keys.items (Some key) (Some n) r.nodes.changed
+        (λ j lt. under_other old.nodes new.nodes key (Some n) r.nodes (key_at old.keys.items j) (λ k is. new_apart j k is))
+
+  pub added_placed : nodes_of new ≡ placed (nodes_of old) (length old.keys.items) n
+  added_placed =
+      added_nodes ∙ sym (ap (λ (m : ℕ). placed (nodes_of old) m n) (sym (length-map old.keys.items (node_under old.nodes))) ∙ placed_behind (nodes_of old) n)
+
+  by_new : {A : Type 0} (j k : ℕ) → key_at new.keys.items j ≡ Some k → (j ≡ length old.keys.items → k ≡ key → A) → (key_at old.keys.items j ≡ Some k → A) → A
+  by_new j k at f g = elim (by_number j (length old.keys.items)) [
+    | inl e ↦ f e (some_same k key (sym at ∙ ap (λ (x : ℕ). key_at new.keys.items x) e ∙ new_here))
+    | inr ne ↦ g (sym (new_other j ne) ∙ at)
+  ]
+
+  pub added_table : IsTable new
+  added_table = record {
+      few =
+        let a = new_long in
+        let b : length old.free.items ≡ 0 = ap length r.none in
+        let w = t.whole in
+        let f = r.few in
+        omega arith;
+      keyed = λ j k at. by_new j k at
+        (λ e same. ap (λ (x : ℕ). is_some (get new.nodes x)) same ∙ ap is_some r.nodes.changed)
+        (λ was. ap is_some (r.nodes.others k (new_apart j k was)) ∙ t.keyed j k was);
+      once = λ j m k a b. by_new j k a
+        (λ e same. by_new m k b (λ f _. e ∙ sym f) (λ was. absurd (new_apart m k was same)))
+        (λ was. by_new m k b (λ f same. absurd (new_apart j k was same)) (λ other. t.once j m k was other));
+      counted = r.count ∙ ap (λ (x : ℕ). x + 1) t.counted ∙ sym (ap (count_by is_some) added_nodes ∙ count_push (nodes_of old) n);
+      free = λ j h. true_false (has_item new.free.items j) h (ap (λ (fs : List ℕ). has_item fs j) r.free);
+      free_once = subst AllDifferent (sym r.free) tt;
+      whole =
+        let a = new_long in
+        let b : length old.free.items ≡ 0 = ap length r.none in
+        let d : length new.free.items ≡ 0 = ap length r.free in
+        let w = t.whole in
+        let f = r.count in
+        omega arith;
+      room =
+        let a = new_long in
+        let b = r.room in
+        omega arith;
+    }
+
+module _ (old new : Table) (i key : ℕ) (t : IsTable old) (r : Freed old new i key) where
+  within : i < length old.keys.items
+  within = key_within old.keys.items i key r.at
+
+  none_here : key_at new.keys.items i ≡ None
+  none_here = ap (λ (ks : List (Option ℕ)). key_at ks i) r.keys ∙ get_or-set_same old.keys.items i None None within
+
+  same_other : (j : ℕ) → j ≢ i → key_at new.keys.items j ≡ key_at old.keys.items j
+  same_other j ne = ap (λ (ks : List (Option ℕ)). key_at ks j) r.keys ∙ get_or-set_other old.keys.items i j None None ne
+
+  same_long : length new.keys.items ≡ length old.keys.items
+  same_long = ap length r.keys ∙ length-set old.keys.items i None
+
+  pub freed_nodes : nodes_of new ≡ slice_set (nodes_of old) i None
+  freed_nodes =
+      nodes_set (node_under old.nodes) (node_under new.nodes) old.keys.items new.keys.items i None same_long within
+      (ap (node_under new.nodes) none_here)
+      (λ j ne lt. ap (node_under new.nodes) (same_other j ne)
+        ∙ under_other old.nodes new.nodes key None r.nodes (key_at old.keys.items j) (λ k is same. ne (t.once j i key (is ∙ ap Some same) r.at)))
+
+  -- a key is one that was, of another number
+  by_old : {A : Type 0} (j k : ℕ) → key_at new.keys.items j ≡ Some k → (j ≢ i → key_at old.keys.items j ≡ Some k → A) → A
+  by_old j k at g = elim (by_number j i) [
+    | inl e ↦ none_some (key_at new.keys.items j) k (ap (λ (x : ℕ). key_at new.keys.items x) e ∙ none_here) at
+    | inr ne ↦ g ne (sym (same_other j ne) ∙ at)
+  ]
+
+  not_listed : has_item old.free.items i ≡ false
+  not_listed = elim (by_truth (has_item old.free.items i)) [
+    | inl h ↦ none_some (key_at old.keys.items i) key (t.free i h).1 r.at
+    | inr f ↦ f
+  ]
+
+  pub freed_table : IsTable new
+  freed_table = record {
+      few = subst (λ (m : ℕ). m ≤ 4194304) (sym same_long) t.few;
+      keyed = λ j k at. by_old j k at (λ ne was.
+        ap is_some (r.nodes.others k (λ same. ne (t.once j i key (was ∙ ap Some same) r.at))) ∙ t.keyed j k was);
+      once = λ j m k a b. by_old j k a (λ _ was. by_old m k b (λ _ other. t.once j m k was other));
+      counted =
+        let lt : i < length (nodes_of old) = subst (λ (m : ℕ). i < m) (sym (length-map old.keys.items (node_under old.nodes))) within in
+        let c = count_set (nodes_of old) i None lt in
+        let had : cond (is_some (node_in (nodes_of old) i)) 1 0 ≡ 1 =
+          ap (λ (b : Bool). cond b 1 0) (ap is_some (node_by_key old.nodes old.keys.items i ∙ ap (node_under old.nodes) r.at) ∙ t.keyed i key r.at) in
+        fewer new.count old.count (count_by is_some (nodes_of old)) (count_by is_some (slice_set (nodes_of old) i None)) (cond (is_some (node_in (nodes_of old) i)) 1 0)
+          r.count t.counted had c ∙ sym (ap (count_by is_some) freed_nodes);
+      free = λ j h. elim (has_append_cases old.free.items (i ∷ []) j (subst (λ (fs : List ℕ). has_item fs j ≡ true) r.free h)) [
+        | inl was ↦
+            let f = t.free j was in
+            let ne : j ≢ i = λ e. true_false (has_item old.free.items j) was (ap (λ (x : ℕ). has_item old.free.items x) e ∙ not_listed) in
+            (subst (λ (m : ℕ). j < m) (sym same_long) f.0, same_other j ne ∙ f.1)
+        | inr new ↦
+            let e : i ≡ j = only i j new in
+            (subst (λ (x : ℕ). x < length new.keys.items) e (subst (λ (m : ℕ). i < m) (sym same_long) within), ap (λ (x : ℕ). key_at new.keys.items x) (sym e) ∙ none_here)
+      ];
+      free_once = subst AllDifferent (sym r.free) (different_push old.free.items i t.free_once not_listed);
+      whole =
+        let a = r.count in
+        let b : length new.free.items ≡ length old.free.items + 1 = ap length r.free ∙ length-append old.free.items (i ∷ []) in
+        let d = same_long in
+        let w = t.whole in
+        omega arith;
+      room =
+        let a = r.room in
+        let d = same_long in
+        let w = t.room in
+        omega arith;
+    }
+    where
+      fewer : (new_count old_count old_some new_some x : ℕ) → new_count + 1 ≡ old_count → old_count ≡ old_some → x ≡ 1 → new_some + x ≡ old_some + 0 → new_count ≡ new_some
+      fewer a b d e x f g h k = omega arith
+
+      only : (x y : ℕ) → has_item (x ∷ []) y ≡ true → x ≡ y
+      only x y h = or_case (nat_eq x y) false h (λ e. eq_is x y e) (λ f. cc)

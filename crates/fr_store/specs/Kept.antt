@@ -1,5 +1,5 @@
 -- How a store keeps its nodes and edges.
-use Rattle.std.specs.Prelude.{◌≡◌, ℕ, ◌+◌, ◌-◌, ◌^◌, ◌<◌, ◌≤◌, ◌⊎◌, List, [], ◌∷◌, length, map, slice_get, slice_index_or, slice_set, Option, Some, None, IsSome, true, false, is_some, count_by, vec_capacity}
+use Rattle.std.specs.Prelude.{◌≡◌, ◌≢◌, ℕ, ◌+◌, ◌-◌, ◌^◌, ◌<◌, ◌≤◌, ◌⊎◌, List, [], ◌∷◌, length, map, slice_get, slice_index_or, slice_set, Option, Some, None, IsSome, true, false, is_some, count_by, vec_capacity}
 use Rattle.fr_links.specs.Lists.{has_item, list_at}
 use Rattle.fr_links.specs.Rings.{AllDifferent}
 use Rattle.fr_value.specs.declared.now.Held.{Held}
@@ -71,13 +71,21 @@ pub record SameTable (old new : Table) : Type 0 where
   pub numbers : SameNumbers old new
   pub slots : new.nodes.slots ≡ old.nodes.slots
 
+-- The edges of a number; none where there is no such number.
+abbrev pub run_at : List Run → ℕ → Run
+run_at runs i = slice_index_or runs i (record { first = 0; room = 0 })
+
 -- The first edge of a number.
 abbrev pub first_at : List Run → ℕ → ℕ
-first_at runs i = (slice_index_or runs i (record { first = 0; room = 0 })).first
+first_at runs i = (run_at runs i).first
 
 -- How many edges a number has.
 abbrev pub room_at : List Run → ℕ → ℕ
-room_at runs i = (slice_index_or runs i (record { first = 0; room = 0 })).room
+room_at runs i = (run_at runs i).room
+
+-- The number of an edge.
+abbrev pub owner_at : List ℕ → ℕ → ℕ
+owner_at owners edge = slice_index_or owners edge 0
 
 -- An edge is one of a number's.
 pub record IsPlace (runs : List Run) (edge : ℕ) : Type 0 where
@@ -90,7 +98,7 @@ pub record IsPlace (runs : List Run) (edge : ℕ) : Type 0 where
 -- Each edge of a number knows it, and only such edges are in lists.
 pub record AreEdges (e : Edges) : Type 0 where
   pub runs : (i : ℕ) → i < length e.runs.items → (4 ≤ room_at e.runs.items i) × (first_at e.runs.items i + room_at e.runs.items i ≤ length e.owners.items)
-  pub owned : (i place : ℕ) → i < length e.runs.items → place < room_at e.runs.items i → slice_get e.owners.items (first_at e.runs.items i + place) ≡ Some i
+  pub owned : (i place : ℕ) → i < length e.runs.items → place < room_at e.runs.items i → owner_at e.owners.items (first_at e.runs.items i + place) ≡ i
   pub inside : (l edge : ℕ) → has_item (list_at e.links.lists l) edge ≡ true → IsPlace e.runs.items edge
   pub lists : length e.runs.items ≤ length e.links.lists
   pub items : length e.owners.items ≤ e.links.items
@@ -100,14 +108,15 @@ pub record AreEdges (e : Edges) : Type 0 where
 pub record SameEdges (old new : Edges) : Type 0 where
   pub runs : new.runs.items ≡ old.runs.items
   pub links : new.links ≡ old.links
-  pub owners : (edge i : ℕ) → slice_get old.owners.items edge ≡ Some i → slice_get new.owners.items edge ≡ Some i
+  pub owners : (edge : ℕ) → edge < length old.owners.items → owner_at new.owners.items edge ≡ owner_at old.owners.items edge
+  pub more : length old.owners.items ≤ length new.owners.items
 
 -- A number has edges for so many places, none of which is in a list, and all else is the same.
 pub record Widened (old new : Edges) (number places : ℕ) : Type 0 where
   pub there : number < length new.runs.items
-  pub len : (length new.runs.items ≡ length old.runs.items) ⊎ ((number ≡ length old.runs.items) × (length new.runs.items ≡ length old.runs.items + 1))
+  pub len : ((number < length old.runs.items) × (length new.runs.items ≡ length old.runs.items)) ⊎ ((number ≡ length old.runs.items) × (length new.runs.items ≡ length old.runs.items + 1))
   pub wide : places ≤ room_at new.runs.items number
-  pub others : (i : ℕ) → i < length old.runs.items → (i ≡ number → ⊥) → slice_get new.runs.items i ≡ slice_get old.runs.items i
+  pub others : (i : ℕ) → i ≢ number → run_at new.runs.items i ≡ run_at old.runs.items i
   pub lists : (l : ℕ) → list_at new.links.lists l ≡ list_at old.links.lists l
   pub idle : (l place : ℕ) → place < room_at new.runs.items number → has_item (list_at new.links.lists l) (first_at new.runs.items number + place) ≡ false
 
@@ -119,7 +128,7 @@ pub record Wires (old new : List (List ℕ)) (first room : ℕ) (names : ℕ →
 -- The edge of a number.
 abbrev pub edge_of : List Run → List ℕ → ℕ → Edge
 edge_of runs owners edge =
-    record { number = edge; node = slice_index_or owners edge 0; place = edge - first_at runs (slice_index_or owners edge 0) }
+    record { number = edge; node = owner_at owners edge; place = edge - first_at runs (owner_at owners edge) }
 
 -- What contracts see of a store.
 abbrev pub stored_in : ℕ → Table → Edges → Stored
@@ -131,12 +140,20 @@ abbrev pub inputs_in : Option Node → List Held
 inputs_in None = []
 inputs_in (Some n) = n.inputs
 
--- No more numbers than the limit, edges for each, and each edge in the list of what its place names.
+-- What the node of a number is computed of; nothing where there is no node.
+abbrev pub inputs_at : Table → ℕ → List Held
+inputs_at t i = inputs_in (node_in (nodes_of t) i)
+
+-- Each number has edges for all its inputs, and each edge is in the list of what its place names and in no other.
+pub record AreListed (e : Edges) (inputs : ℕ → List Held) : Type 0 where
+  pub enough : (i : ℕ) → length (inputs i) ≤ room_at e.runs.items i
+  pub listed : (l i place : ℕ) → i < length e.runs.items → place < room_at e.runs.items i → has_item (list_at e.links.lists l) (first_at e.runs.items i + place) ≡ is_number (signal_at (inputs i) place) l
+
+-- No more numbers than the limit, edges for each, and these are listed by the nodes' inputs.
 pub record IsStore (limit : ℕ) (table : Table) (edges : Edges) : Type 0 where
   pub small : limit ≤ 4194304
   pub few : length table.keys.items ≤ limit
   pub table : IsTable table
   pub edges : AreEdges edges
   pub runs : length edges.runs.items ≡ length table.keys.items
-  pub enough : (i : ℕ) → length (inputs_in (node_in (nodes_of table) i)) ≤ room_at edges.runs.items i
-  pub listed : (l i place : ℕ) → i < length edges.runs.items → place < room_at edges.runs.items i → has_item (list_at edges.links.lists l) (first_at edges.runs.items i + place) ≡ is_number (signal_at (inputs_in (node_in (nodes_of table) i)) place) l
+  pub listed : AreListed edges (inputs_at table)
