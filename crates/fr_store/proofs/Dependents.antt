@@ -32,7 +32,7 @@ edge_in runs owners [] j place h = cc
 edge_in runs owners (x ∷ xs) j place h =
     or_case (nat_eq (owner_at owners x) j && nat_eq (x - first_at runs (owner_at owners x)) place) (has_edge (map (edge_of runs owners) xs) j place) h
     (λ e. let b = and_both (nat_eq (owner_at owners x) j) (nat_eq (x - first_at runs (owner_at owners x)) place) e in
-      (x, or_left (nat_eq x x) (has_item xs x) (eq_self x), eq_is (owner_at owners x) j b.0, eq_is (x - first_at runs (owner_at owners x)) place b.1))
+    (x, or_left (nat_eq x x) (has_item xs x) (eq_self x), eq_is (owner_at owners x) j b.0, eq_is (x - first_at runs (owner_at owners x)) place b.1))
     (λ later. let r = edge_in runs owners xs j place later in (r.0, or_right (nat_eq x r.0) (has_item xs r.0) r.1, r.2, r.3))
 
 in_edge : (runs : List Run) (owners xs : List ℕ) (x j place : ℕ) → has_item xs x ≡ true → owner_at owners x ≡ j
@@ -40,12 +40,12 @@ in_edge : (runs : List Run) (owners xs : List ℕ) (x j place : ℕ) → has_ite
 in_edge runs owners [] x j place h own at = cc
 in_edge runs owners (y ∷ xs) x j place h own at = or_case (nat_eq y x) (has_item xs x) h
     (λ e. or_left (nat_eq (owner_at owners y) j && nat_eq (y - first_at runs (owner_at owners y)) place) (has_edge (map (edge_of runs owners) xs) j place)
-      (let same : y ≡ x = eq_is y x e in
-      both_and (nat_eq (owner_at owners y) j) (nat_eq (y - first_at runs (owner_at owners y)) place)
-      (ap (λ (k : ℕ). nat_eq k j) (ap (owner_at owners) same ∙ own) ∙ eq_self j)
-      (ap (λ (k : ℕ). nat_eq k place) (ap (λ (k : ℕ). k - first_at runs (owner_at owners k)) same ∙ at) ∙ eq_self place)))
+    (let same : y ≡ x = eq_is y x e in
+    both_and (nat_eq (owner_at owners y) j) (nat_eq (y - first_at runs (owner_at owners y)) place)
+    (ap (λ (k : ℕ). nat_eq k j) (ap (owner_at owners) same ∙ own) ∙ eq_self j)
+    (ap (λ (k : ℕ). nat_eq k place) (ap (λ (k : ℕ). k - first_at runs (owner_at owners k)) same ∙ at) ∙ eq_self place)))
     (λ later. or_right (nat_eq (owner_at owners y) j && nat_eq (y - first_at runs (owner_at owners y)) place) (has_edge (map (edge_of runs owners) xs) j place)
-      (in_edge runs owners xs x j place later own at))
+    (in_edge runs owners xs x j place later own at))
 
 -- who reads names at some place
 reader_place : (es : List Edge) (j : ℕ) → has_reader es j ≡ true → (place : ℕ) × (has_edge es j place ≡ true)
@@ -119,16 +119,17 @@ module _ (limit : ℕ) (t : Table) (e : Edges) (s : IsStore limit t e) (i : ℕ)
       → (j < length e.runs.items) × (place < room_at e.runs.items j) × (has_item (list_at e.links.lists i) (first_at e.runs.items j + place) ≡ true)
   is_place j place h =
       let x = edge_in e.runs.items e.owners.items (list_at e.links.lists i) j place h in
-      let p = s.edges.inside i x.0 x.1 in
-      let own : owner_at e.owners.items x.0 ≡ p.number = ap (owner_at e.owners.items) p.same ∙ s.edges.owned p.number p.place p.there p.within in
+      let p = s.kept_edges.inside i x.0 x.1 in
+      let own : owner_at e.owners.items x.0 ≡ p.number = ap (owner_at e.owners.items) p.same ∙ s.kept_edges.owned p.number p.place p.there p.within in
       let same : p.number ≡ j = sym own ∙ x.2 in
       let from : first_at e.runs.items (owner_at e.owners.items x.0) ≡ first_at e.runs.items p.number = ap (first_at e.runs.items) own in
-      let at : p.place ≡ place = behind x.0 (first_at e.runs.items p.number) p.place place (first_at e.runs.items (owner_at e.owners.items x.0)) p.same x.3 from in
-      (subst (λ (k : ℕ). k < length e.runs.items) same p.there,
-       subst (λ (k : ℕ). place < room_at e.runs.items k) same (subst (λ (k : ℕ). k < room_at e.runs.items p.number) at p.within),
-       subst (λ (k : ℕ). has_item (list_at e.links.lists i) (first_at e.runs.items k + place) ≡ true) same
-        (subst (λ (k : ℕ). has_item (list_at e.links.lists i) (first_at e.runs.items p.number + k) ≡ true) at
-          (subst (λ (k : ℕ). has_item (list_at e.links.lists i) k ≡ true) p.same x.1)))
+      let at : p.place ≡ place = behind x.0 (first_at e.runs.items p.number) p.place place (first_at e.runs.items (owner_at e.owners.items x.0)) p.same x.3 from in (
+        subst (λ (k : ℕ). k < length e.runs.items) same p.there,
+        subst (λ (k : ℕ). place < room_at e.runs.items k) same (subst (λ (k : ℕ). k < room_at e.runs.items p.number) at p.within),
+        subst (λ (k : ℕ). has_item (list_at e.links.lists i) (first_at e.runs.items k + place) ≡ true) same
+            (subst (λ (k : ℕ). has_item (list_at e.links.lists i) (first_at e.runs.items p.number + k) ≡ true) at
+            (subst (λ (k : ℕ). has_item (list_at e.links.lists i) k ≡ true) p.same x.1)),
+      )
     where
       behind : (x first p place other : ℕ) → x ≡ first + p → x - other ≡ place → other ≡ first → p ≡ place
       behind x first p place other a b d = omega arith
@@ -145,7 +146,7 @@ module _ (limit : ℕ) (t : Table) (e : Edges) (s : IsStore limit t e) (i : ℕ)
         let wide = s.listed.enough j in
         let within : place < room_at e.runs.items j = omega arith in
         let there : j < length e.runs.items = has_run j within in
-        let own = s.edges.owned j place there within in
+        let own = s.kept_edges.owned j place there within in
         in_edge e.runs.items e.owners.items (list_at e.links.lists i) (first_at e.runs.items j + place) j place
         (s.listed.listed i j place there within ∙ h) own
         (ap (λ (k : ℕ). first_at e.runs.items j + place - first_at e.runs.items k) own ∙ less (first_at e.runs.items j) place)
@@ -174,17 +175,17 @@ module _ (limit : ℕ) (t : Table) (e : Edges) (s : IsStore limit t e) (i : ℕ)
 
   exact : AreDependents (stored_in limit t e) i (map (edge_of e.runs.items e.owners.items) (list_at e.links.lists i))
   exact = record {
-      places = λ j place n at.
+    places = λ j place n at.
         same_tests (has_edge (map (edge_of e.runs.items e.owners.items) (list_at e.links.lists i)) j place) (is_number (signal_at (inputs_at t j) place) i)
         (names j place) (named_there j place)
         ∙ ap (λ (hs : List Held). is_number (signal_at hs place) i) (inputs_are j n at);
-      readers = λ j n at.
+    readers = λ j n at.
         same_tests (has_reader (map (edge_of e.runs.items e.owners.items) (list_at e.links.lists i)) j) (reads i (inputs_at t j))
         (λ h. let p = reader_place (map (edge_of e.runs.items e.owners.items) (list_at e.links.lists i)) j h in place_read i (inputs_at t j) p.0 (names j p.0 p.1))
         (λ h. let p = read_place i (inputs_at t j) h in place_reader (map (edge_of e.runs.items e.owners.items) (list_at e.links.lists i)) j p.0 (named_there j p.0 p.1))
         ∙ ap (reads i) (inputs_are j n at);
-      live = λ j h. let p = reader_place (map (edge_of e.runs.items e.owners.items) (list_at e.links.lists i)) j h in has_node j p.0 (names j p.0 p.1);
-    }
+    live = λ j h. let p = reader_place (map (edge_of e.runs.items e.owners.items) (list_at e.links.lists i)) j h in has_node j p.0 (names j p.0 p.1);
+  }
 
   pub exact_dependents : AreDependents (stored_in limit t e) i (dependents_at (stored_in limit t e) i)
   exact_dependents = subst (λ (es : List Edge). AreDependents (stored_in limit t e) i es) (sym (dependents_are limit t e i)) exact

@@ -2,4 +2,4 @@ pub mod Dependents
 pub mod Lists
 pub mod Tables
 pub mod Widening
-pub mod Wiring
+pub mod Wirings

@@ -45,11 +45,11 @@ last_other lists l item m other lt apart = elim (by_number m l) [
       ap (λ (k : ℕ). has_item (list_at (with_last lists l item) k) other) e
       ∙ ap (λ (xs : List ℕ). has_item xs other) (get_or-set_same lists l (list_at lists l ++ item ∷ []) [] lt)
       ∙ same_tests (has_item (list_at lists l ++ item ∷ []) other) (has_item (list_at lists l) other)
-        (λ h. elim (has_append_cases (list_at lists l) (item ∷ []) other h) [
-          | inl was ↦ was
-          | inr new ↦ or_case {A = has_item (list_at lists l) other ≡ true} _ false new (λ same. absurd (apart (sym (eq_is item other same)))) (λ f. cc)
-        ])
-        (λ was. has_append_left (list_at lists l) (item ∷ []) other was)
+      (λ h. elim (has_append_cases (list_at lists l) (item ∷ []) other h) [
+        | inl was ↦ was
+        | inr new ↦ or_case {A = has_item (list_at lists l) other ≡ true} _ false new (λ same. absurd (apart (sym (eq_is item other same)))) (λ f. cc)
+      ])
+      (λ was. has_append_left (list_at lists l) (item ∷ []) other was)
       ∙ ap (λ (k : ℕ). has_item (list_at lists k) other) (sym e)
 ]
 
@@ -74,4 +74,4 @@ pub without_other : (lists : List (List ℕ)) (item l other : ℕ) → other ≢
 without_other lists item l other apart =
     ap (λ (xs : List ℕ). has_item xs other) (list_without lists item l)
     ∙ same_tests (has_item (others (list_at lists l) item) other) (has_item (list_at lists l) other)
-      (λ h. (others_has (list_at lists l) item other h).0) (λ h. others_keeps (list_at lists l) item other h apart)
+    (λ h. (others_has (list_at lists l) item other h).0) (λ h. others_keeps (list_at lists l) item other h apart)

@@ -58,14 +58,14 @@ nodes_set f g old new i x len lt here others =
     same_lists (map g new) (slice_set (map f old) i x)
     (length-map new g ∙ len ∙ sym (length-map old f) ∙ sym (length-set (map f old) i x))
     (λ j d inside.
-      let in_new : j < length new = subst (λ (n : ℕ). j < n) (length-map new g) inside in
-      let in_old : j < length old = subst (λ (n : ℕ). j < n) len in_new in
-      let long : i < length (map f old) = subst (λ (n : ℕ). i < n) (sym (length-map old f)) lt in
-      get_or-map g new j None d in_new
-      ∙ elim (by_number j i) [
-        | inl e ↦ ap (λ (k : ℕ). g (key_at new k)) e ∙ here ∙ sym (ap (λ (k : ℕ). get_or (slice_set (map f old) i x) k d) e ∙ get_or-set_same (map f old) i x d long)
-        | inr ne ↦ others j ne in_old ∙ sym (get_or-set_other (map f old) i j x d ne ∙ get_or-map f old j None d in_old)
-      ])
+    let in_new : j < length new = subst (λ (n : ℕ). j < n) (length-map new g) inside in
+    let in_old : j < length old = subst (λ (n : ℕ). j < n) len in_new in
+    let long : i < length (map f old) = subst (λ (n : ℕ). i < n) (sym (length-map old f)) lt in
+    get_or-map g new j None d in_new
+    ∙ elim (by_number j i) [
+      | inl e ↦ ap (λ (k : ℕ). g (key_at new k)) e ∙ here ∙ sym (ap (λ (k : ℕ). get_or (slice_set (map f old) i x) k d) e ∙ get_or-set_same (map f old) i x d long)
+      | inr ne ↦ others j ne in_old ∙ sym (get_or-set_other (map f old) i j x d ne ∙ get_or-map f old j None d in_old)
+    ])
 
 -- one more key at the end, and the others lead where they led
 pub nodes_push : (f g : Option ℕ → Option Node) (keys : List (Option ℕ)) (key : Option ℕ) (x : Option Node) → g key ≡ x
@@ -95,25 +95,25 @@ under_other old new key slot u (Some k) apart = u.others k (apart k refl)
 pub table_kept : (old new : Table) → IsTable old → SameNumbers old new → vec_capacity old.free ≤ vec_capacity new.free
     → ((key : ℕ) → IsSome (get old.nodes key) → IsSome (get new.nodes key)) → count_by is_some (nodes_of new) ≡ count_by is_some (nodes_of old) → IsTable new
 table_kept old new t e room there same = record {
-    few = subst (λ (ks : List (Option ℕ)). length ks ≤ 4194304) (sym e.keys) t.few;
-    keyed = λ i key at. there key (t.keyed i key (subst (λ (ks : List (Option ℕ)). key_at ks i ≡ Some key) e.keys at));
-    once = λ i j key a b. t.once i j key (subst (λ (ks : List (Option ℕ)). key_at ks i ≡ Some key) e.keys a)
+  few = subst (λ (ks : List (Option ℕ)). length ks ≤ 4194304) (sym e.keys) t.few;
+  keyed = λ i key at. there key (t.keyed i key (subst (λ (ks : List (Option ℕ)). key_at ks i ≡ Some key) e.keys at));
+  once = λ i j key a b. t.once i j key (subst (λ (ks : List (Option ℕ)). key_at ks i ≡ Some key) e.keys a)
       (subst (λ (ks : List (Option ℕ)). key_at ks j ≡ Some key) e.keys b);
-    counted = e.count ∙ t.counted ∙ sym same;
-    free = λ i h. let f = t.free i (subst (λ (fs : List ℕ). has_item fs i ≡ true) e.free h) in
+  counted = e.count ∙ t.counted ∙ sym same;
+  free = λ i h. let f = t.free i (subst (λ (fs : List ℕ). has_item fs i ≡ true) e.free h) in
       (subst (λ (ks : List (Option ℕ)). i < length ks) (sym e.keys) f.0, subst (λ (ks : List (Option ℕ)). key_at ks i ≡ None) (sym e.keys) f.1);
-    free_once = subst AllDifferent (sym e.free) t.free_once;
-    whole =
+  free_once = subst AllDifferent (sym e.free) t.free_once;
+  whole =
       let a : new.count ≡ old.count = e.count in
       let b : length new.free.items ≡ length old.free.items = ap length e.free in
       let d : length new.keys.items ≡ length old.keys.items = ap length e.keys in
       let w = t.whole in
       omega arith;
-    room =
+  room =
       let d : length new.keys.items ≡ length old.keys.items = ap length e.keys in
       let w = t.room in
       omega arith;
-  }
+}
 
 -- a node is written under the key of its number
 pub nodes_written : (old new : Table) (i key : ℕ) (m : Node) → IsTable old → SameNumbers old new → key_at old.keys.items i ≡ Some key
@@ -122,7 +122,7 @@ nodes_written old new i key m t e at written =
     nodes_set (node_under old.nodes) (node_under new.nodes) old.keys.items new.keys.items i (Some m) (ap length e.keys) (key_within old.keys.items i key at)
     (ap (λ (ks : List (Option ℕ)). node_under new.nodes (key_at ks i)) e.keys ∙ ap (node_under new.nodes) at ∙ updated.changed)
     (λ j ne lt. ap (λ (ks : List (Option ℕ)). node_under new.nodes (key_at ks j)) e.keys
-      ∙ under_other old.nodes new.nodes key (Some m) updated (key_at old.keys.items j) (λ k is same. ne (t.once j i key (is ∙ ap Some same) at)))
+    ∙ under_other old.nodes new.nodes key (Some m) updated (key_at old.keys.items j) (λ k is same. ne (t.once j i key (is ∙ ap Some same) at)))
   where
     updated : Updates old.nodes new.nodes key (Some m)
     updated = subst (λ (s : Slab Node). Updates old.nodes s key (Some m)) (sym written) (Updates-with_value old.nodes key m (t.keyed i key at))
@@ -134,9 +134,9 @@ table_written old new i key m t e room at written =
     (let lt : i < length (nodes_of old) = subst (λ (n : ℕ). i < n) (sym (length-map old.keys.items (node_under old.nodes))) (key_within old.keys.items i key at) in
     let c = count_set (nodes_of old) i (Some m) lt in
     let had : cond (is_some (node_in (nodes_of old) i)) 1 0 ≡ 1 =
-      ap (λ (b : Bool). cond b 1 0) (ap is_some (node_by_key old.nodes old.keys.items i ∙ ap (node_under old.nodes) at) ∙ t.keyed i key at) in
+    ap (λ (b : Bool). cond b 1 0) (ap is_some (node_by_key old.nodes old.keys.items i ∙ ap (node_under old.nodes) at) ∙ t.keyed i key at) in
     let after : count_by is_some (nodes_of new) ≡ count_by is_some (slice_set (nodes_of old) i (Some m)) =
-      ap (count_by is_some) (nodes_written old new i key m t e at written) in
+    ap (count_by is_some) (nodes_written old new i key m t e at written) in
     let d : cond (is_some (Some m)) 1 0 ≡ 1 = refl in
     after ∙ same_sum (count_by is_some (slice_set (nodes_of old) i (Some m))) (count_by is_some (nodes_of old)) (cond (is_some (node_in (nodes_of old) i)) 1 0) had c)
   where
@@ -204,9 +204,10 @@ split_last (y ∷ xs) x d =
     ((n.0, r.0), cons_absent y xs x n.1 r.1)
   where
     append_absent : (xs : List ℕ) (x y : ℕ) → has_item (xs ++ x ∷ []) y ≡ false → (has_item xs y ≡ false) × (y ≢ x)
-    append_absent xs x y n =
-        (absent_of xs y (λ h. has_append_left xs (x ∷ []) y h) n,
-         λ e. true_false (has_item (xs ++ x ∷ []) y) (subst (λ (k : ℕ). has_item (xs ++ x ∷ []) k ≡ true) (sym e) (has_append_right xs (x ∷ []) x (here x []))) n)
+    append_absent xs x y n = (
+      absent_of xs y (λ h. has_append_left xs (x ∷ []) y h) n,
+      λ e. true_false (has_item (xs ++ x ∷ []) y) (subst (λ (k : ℕ). has_item (xs ++ x ∷ []) k ≡ true) (sym e) (has_append_right xs (x ∷ []) x (here x []))) n,
+    )
       where
         absent_of : (xs : List ℕ) (y : ℕ) → (has_item xs y ≡ true → has_item (xs ++ x ∷ []) y ≡ true) → has_item (xs ++ x ∷ []) y ≡ false → has_item xs y ≡ false
         absent_of xs y f n = elim (by_truth (has_item xs y)) [
@@ -255,37 +256,38 @@ module _ (old new : Table) (i key : ℕ) (n : Node) (t : IsTable old) (r : Reuse
 
   pub reused_table : IsTable new
   reused_table = record {
-      few = subst (λ (m : ℕ). m ≤ 4194304) (sym long) t.few;
-      keyed = λ j k at. by_key j k at
+    few = subst (λ (m : ℕ). m ≤ 4194304) (sym long) t.few;
+    keyed = λ j k at. by_key j k at
         (λ e same. ap (λ (x : ℕ). is_some (get new.nodes x)) same ∙ ap is_some r.nodes.changed)
         (λ ne was. ap is_some (r.nodes.others k (apart j k was)) ∙ t.keyed j k was);
-      once = λ j m k a b. by_key j k a
+    once = λ j m k a b. by_key j k a
         (λ e same. by_key m k b (λ f _. e ∙ sym f) (λ ne was. absurd (apart m k was same)))
         (λ ne was. by_key m k b (λ f same. absurd (apart j k was same)) (λ _ other. t.once j m k was other));
-      counted =
+    counted =
         let lt : i < length (nodes_of old) = subst (λ (m : ℕ). i < m) (sym (length-map old.keys.items (node_under old.nodes))) was_free.0 in
         let c = count_set (nodes_of old) i (Some n) lt in
         let had : cond (is_some (node_in (nodes_of old) i)) 1 0 ≡ 0 =
-          ap (λ (o : Option Node). cond (is_some o) 1 0) (node_by_key old.nodes old.keys.items i ∙ ap (node_under old.nodes) was_free.1) in
+        ap (λ (o : Option Node). cond (is_some o) 1 0) (node_by_key old.nodes old.keys.items i ∙ ap (node_under old.nodes) was_free.1) in
         more new.count old.count (count_by is_some (nodes_of old)) (count_by is_some (slice_set (nodes_of old) i (Some n))) (cond (is_some (node_in (nodes_of old) i)) 1 0)
-          r.count t.counted had c ∙ sym (ap (count_by is_some) reused_nodes);
-      free = λ j h.
-        let f = t.free j (subst (λ (fs : List ℕ). has_item fs j ≡ true) (sym r.free) (has_append_left new.free.items (i ∷ []) j h)) in
-        (subst (λ (m : ℕ). j < m) (sym long) f.0,
-         key_other j (λ e. true_false (has_item new.free.items j) h (ap (λ (x : ℕ). has_item new.free.items x) e ∙ rest.1)) ∙ f.1);
-      free_once = rest.0;
-      whole =
+        r.count t.counted had c ∙ sym (ap (count_by is_some) reused_nodes);
+    free = λ j h.
+        let f = t.free j (subst (λ (fs : List ℕ). has_item fs j ≡ true) (sym r.free) (has_append_left new.free.items (i ∷ []) j h)) in (
+          subst (λ (m : ℕ). j < m) (sym long) f.0,
+          key_other j (λ e. true_false (has_item new.free.items j) h (ap (λ (x : ℕ). has_item new.free.items x) e ∙ rest.1)) ∙ f.1,
+        );
+    free_once = rest.0;
+    whole =
         let a = r.count in
         let b : length old.free.items ≡ length new.free.items + 1 = ap length r.free ∙ length-append new.free.items (i ∷ []) in
         let d = long in
         let w = t.whole in
         omega arith;
-      room =
+    room =
         let a = r.room in
         let d = long in
         let w = t.room in
         omega arith;
-    }
+  }
     where
       more : (new_count old_count old_some new_some x : ℕ) → new_count ≡ old_count + 1 → old_count ≡ old_some → x ≡ 0 → new_some + x ≡ old_some + 1 → new_count ≡ new_some
       more a b d e x f g h k = omega arith
@@ -317,7 +319,7 @@ module _ (old new : Table) (key : ℕ) (n : Node) (t : IsTable old) (r : Added o
   added_nodes =
       ap (map (node_under new.nodes)) r.keys
       ∙ nodes_push (node_under old.nodes) (node_under new.nodes) old.keys.items (Some key) (Some n) r.nodes.changed
-        (λ j lt. under_other old.nodes new.nodes key (Some n) r.nodes (key_at old.keys.items j) (λ k is. new_apart j k is))
+      (λ j lt. under_other old.nodes new.nodes key (Some n) r.nodes (key_at old.keys.items j) (λ k is. new_apart j k is))
 
   pub added_placed : nodes_of new ≡ placed (nodes_of old) (length old.keys.items) n
   added_placed =
@@ -331,33 +333,33 @@ module _ (old new : Table) (key : ℕ) (n : Node) (t : IsTable old) (r : Added o
 
   pub added_table : IsTable new
   added_table = record {
-      few =
+    few =
         let a = new_long in
         let b : length old.free.items ≡ 0 = ap length r.none in
         let w = t.whole in
         let f = r.few in
         omega arith;
-      keyed = λ j k at. by_new j k at
+    keyed = λ j k at. by_new j k at
         (λ e same. ap (λ (x : ℕ). is_some (get new.nodes x)) same ∙ ap is_some r.nodes.changed)
         (λ was. ap is_some (r.nodes.others k (new_apart j k was)) ∙ t.keyed j k was);
-      once = λ j m k a b. by_new j k a
+    once = λ j m k a b. by_new j k a
         (λ e same. by_new m k b (λ f _. e ∙ sym f) (λ was. absurd (new_apart m k was same)))
         (λ was. by_new m k b (λ f same. absurd (new_apart j k was same)) (λ other. t.once j m k was other));
-      counted = r.count ∙ ap (λ (x : ℕ). x + 1) t.counted ∙ sym (ap (count_by is_some) added_nodes ∙ count_push (nodes_of old) n);
-      free = λ j h. true_false (has_item new.free.items j) h (ap (λ (fs : List ℕ). has_item fs j) r.free);
-      free_once = subst AllDifferent (sym r.free) tt;
-      whole =
+    counted = r.count ∙ ap (λ (x : ℕ). x + 1) t.counted ∙ sym (ap (count_by is_some) added_nodes ∙ count_push (nodes_of old) n);
+    free = λ j h. true_false (has_item new.free.items j) h (ap (λ (fs : List ℕ). has_item fs j) r.free);
+    free_once = subst AllDifferent (sym r.free) tt;
+    whole =
         let a = new_long in
         let b : length old.free.items ≡ 0 = ap length r.none in
         let d : length new.free.items ≡ 0 = ap length r.free in
         let w = t.whole in
         let f = r.count in
         omega arith;
-      room =
+    room =
         let a = new_long in
         let b = r.room in
         omega arith;
-    }
+  }
 
 module _ (old new : Table) (i key : ℕ) (t : IsTable old) (r : Freed old new i key) where
   within : i < length old.keys.items
@@ -377,7 +379,7 @@ module _ (old new : Table) (i key : ℕ) (t : IsTable old) (r : Freed old new i 
       nodes_set (node_under old.nodes) (node_under new.nodes) old.keys.items new.keys.items i None same_long within
       (ap (node_under new.nodes) none_here)
       (λ j ne lt. ap (node_under new.nodes) (same_other j ne)
-        ∙ under_other old.nodes new.nodes key None r.nodes (key_at old.keys.items j) (λ k is same. ne (t.once j i key (is ∙ ap Some same) r.at)))
+      ∙ under_other old.nodes new.nodes key None r.nodes (key_at old.keys.items j) (λ k is same. ne (t.once j i key (is ∙ ap Some same) r.at)))
 
   -- a key is one that was, of another number
   by_old : {A : Type 0} (j k : ℕ) → key_at new.keys.items j ≡ Some k → (j ≢ i → key_at old.keys.items j ≡ Some k → A) → A
@@ -394,39 +396,39 @@ module _ (old new : Table) (i key : ℕ) (t : IsTable old) (r : Freed old new i 
 
   pub freed_table : IsTable new
   freed_table = record {
-      few = subst (λ (m : ℕ). m ≤ 4194304) (sym same_long) t.few;
-      keyed = λ j k at. by_old j k at (λ ne was.
+    few = subst (λ (m : ℕ). m ≤ 4194304) (sym same_long) t.few;
+    keyed = λ j k at. by_old j k at (λ ne was.
         ap is_some (r.nodes.others k (λ same. ne (t.once j i key (was ∙ ap Some same) r.at))) ∙ t.keyed j k was);
-      once = λ j m k a b. by_old j k a (λ _ was. by_old m k b (λ _ other. t.once j m k was other));
-      counted =
+    once = λ j m k a b. by_old j k a (λ _ was. by_old m k b (λ _ other. t.once j m k was other));
+    counted =
         let lt : i < length (nodes_of old) = subst (λ (m : ℕ). i < m) (sym (length-map old.keys.items (node_under old.nodes))) within in
         let c = count_set (nodes_of old) i None lt in
         let had : cond (is_some (node_in (nodes_of old) i)) 1 0 ≡ 1 =
-          ap (λ (b : Bool). cond b 1 0) (ap is_some (node_by_key old.nodes old.keys.items i ∙ ap (node_under old.nodes) r.at) ∙ t.keyed i key r.at) in
+        ap (λ (b : Bool). cond b 1 0) (ap is_some (node_by_key old.nodes old.keys.items i ∙ ap (node_under old.nodes) r.at) ∙ t.keyed i key r.at) in
         fewer new.count old.count (count_by is_some (nodes_of old)) (count_by is_some (slice_set (nodes_of old) i None)) (cond (is_some (node_in (nodes_of old) i)) 1 0)
-          r.count t.counted had c ∙ sym (ap (count_by is_some) freed_nodes);
-      free = λ j h. elim (has_append_cases old.free.items (i ∷ []) j (subst (λ (fs : List ℕ). has_item fs j ≡ true) r.free h)) [
-        | inl was ↦
-            let f = t.free j was in
-            let ne : j ≢ i = λ e. true_false (has_item old.free.items j) was (ap (λ (x : ℕ). has_item old.free.items x) e ∙ not_listed) in
-            (subst (λ (m : ℕ). j < m) (sym same_long) f.0, same_other j ne ∙ f.1)
-        | inr new ↦
-            let e : i ≡ j = only i j new in
-            (subst (λ (x : ℕ). x < length new.keys.items) e (subst (λ (m : ℕ). i < m) (sym same_long) within), ap (λ (x : ℕ). key_at new.keys.items x) (sym e) ∙ none_here)
-      ];
-      free_once = subst AllDifferent (sym r.free) (different_push old.free.items i t.free_once not_listed);
-      whole =
+        r.count t.counted had c ∙ sym (ap (count_by is_some) freed_nodes);
+    free = λ j h. elim (has_append_cases old.free.items (i ∷ []) j (subst (λ (fs : List ℕ). has_item fs j ≡ true) r.free h)) [
+      | inl was ↦
+          let f = t.free j was in
+          let ne : j ≢ i = λ e. true_false (has_item old.free.items j) was (ap (λ (x : ℕ). has_item old.free.items x) e ∙ not_listed) in
+          (subst (λ (m : ℕ). j < m) (sym same_long) f.0, same_other j ne ∙ f.1)
+      | inr new ↦
+          let e : i ≡ j = only i j new in
+          (subst (λ (x : ℕ). x < length new.keys.items) e (subst (λ (m : ℕ). i < m) (sym same_long) within), ap (λ (x : ℕ). key_at new.keys.items x) (sym e) ∙ none_here)
+    ];
+    free_once = subst AllDifferent (sym r.free) (different_push old.free.items i t.free_once not_listed);
+    whole =
         let a = r.count in
         let b : length new.free.items ≡ length old.free.items + 1 = ap length r.free ∙ length-append old.free.items (i ∷ []) in
         let d = same_long in
         let w = t.whole in
         omega arith;
-      room =
+    room =
         let a = r.room in
         let d = same_long in
         let w = t.room in
         omega arith;
-    }
+  }
     where
       fewer : (new_count old_count old_some new_some x : ℕ) → new_count + 1 ≡ old_count → old_count ≡ old_some → x ≡ 1 → new_some + x ≡ old_some + 0 → new_count ≡ new_some
       fewer a b d e x f g h k = omega arith

@@ -91,66 +91,66 @@ module _ (old new : Edges) (number room : ℕ) (e : AreEdges old) (g : Grows old
         (ap (λ (x : ℕ). has_item (list_at old.links.lists l) x) (p.same ∙ ap (λ (x : ℕ). first_at old.runs.items x + p.place) same)
         ∙ idle l p.place (subst (λ (x : ℕ). p.place < room_at old.runs.items x) same p.within))
     | inr ne ↦ record {
-        number = p.number;
-        place = p.place;
-        there = stays_there p.number p.there;
-        within = subst (λ (x : ℕ). p.place < x) (sym (room_other p.number ne)) p.within;
-        same = p.same ∙ ap (λ (x : ℕ). x + p.place) (sym (first_other p.number ne));
-      }
+      number = p.number;
+      place = p.place;
+      there = stays_there p.number p.there;
+      within = subst (λ (x : ℕ). p.place < x) (sym (room_other p.number ne)) p.within;
+      same = p.same ∙ ap (λ (x : ℕ). x + p.place) (sym (first_other p.number ne));
+    }
   ]
 
   pub grown_edges : AreEdges new
   grown_edges = record {
-      runs = λ i lt. elim (by_number i number) [
-        | inl same ↦ subst (λ (x : ℕ). (4 ≤ room_at new.runs.items x) × (first_at new.runs.items x + room_at new.runs.items x ≤ length new.owners.items)) (sym same)
-            (let a = first_here in
-            let b = room_here in
-            let d = g.four in
-            let f = g.owners_len in
-            (omega arith, omega arith))
-        | inr ne ↦
-            let r = e.runs i (was_there i ne lt) in
-            let a = first_other i ne in
-            let b = room_other i ne in
-            let f = g.owners_len in
-            let r0 = r.0 in
-            let r1 = r.1 in
-            (omega arith, omega arith)
-      ];
-      owned = λ i place lt small. elim (by_number i number) [
-        | inl same ↦
-            let a = first_here in
-            let b = room_here in
-            let in_room : place < room = omega (arith, subst (λ (x : ℕ). place < room_at new.runs.items x) same small) in
-            ap (λ (x : ℕ). owner_at new.owners.items (first_at new.runs.items x + place)) same
-            ∙ ap (λ (x : ℕ). owner_at new.owners.items (x + place)) a
-            ∙ g.owners_new (length old.owners.items + place) (omega arith) (omega arith) ∙ sym same
-        | inr ne ↦
-            let was = was_there i ne lt in
-            let r = e.runs i was in
-            let r1 = r.1 in
-            let b = room_other i ne in
-            let in_room : place < room_at old.runs.items i = omega arith in
-            ap (λ (x : ℕ). owner_at new.owners.items (x + place)) (first_other i ne)
-            ∙ g.owners_old (first_at old.runs.items i + place) (omega arith) ∙ e.owned i place was in_room
-      ];
-      inside = λ l edge h.
+    runs = λ i lt. elim (by_number i number) [
+      | inl same ↦ subst (λ (x : ℕ). (4 ≤ room_at new.runs.items x) × (first_at new.runs.items x + room_at new.runs.items x ≤ length new.owners.items)) (sym same)
+          (let a = first_here in
+          let b = room_here in
+          let d = g.four in
+          let f = g.owners_len in
+          (omega arith, omega arith))
+      | inr ne ↦
+          let r = e.runs i (was_there i ne lt) in
+          let a = first_other i ne in
+          let b = room_other i ne in
+          let f = g.owners_len in
+          let r0 = r.0 in
+          let r1 = r.1 in
+          (omega arith, omega arith)
+    ];
+    owned = λ i place lt small. elim (by_number i number) [
+      | inl same ↦
+          let a = first_here in
+          let b = room_here in
+          let in_room : place < room = omega (arith, subst (λ (x : ℕ). place < room_at new.runs.items x) same small) in
+          ap (λ (x : ℕ). owner_at new.owners.items (first_at new.runs.items x + place)) same
+          ∙ ap (λ (x : ℕ). owner_at new.owners.items (x + place)) a
+          ∙ g.owners_new (length old.owners.items + place) (omega arith) (omega arith) ∙ sym same
+      | inr ne ↦
+          let was = was_there i ne lt in
+          let r = e.runs i was in
+          let r1 = r.1 in
+          let b = room_other i ne in
+          let in_room : place < room_at old.runs.items i = omega arith in
+          ap (λ (x : ℕ). owner_at new.owners.items (x + place)) (first_other i ne)
+          ∙ g.owners_old (first_at old.runs.items i + place) (omega arith) ∙ e.owned i place was in_room
+    ];
+    inside = λ l edge h.
         let was : has_item (list_at old.links.lists l) edge ≡ true = subst (λ (xs : List ℕ). has_item xs edge ≡ true) (list_same l) h in
         place_on l edge was (e.inside l edge was);
-      lists =
+    lists =
         let long : length new.links.lists ≡ length old.links.lists + (number + 1 - length old.links.lists) = ap length g.lists ∙ grown_long old.links.lists (number + 1) in
         let was = e.lists in
         enough_lists (length old.runs.items) (length new.runs.items) (length old.links.lists) (length new.links.lists) g.len long was;
-      items =
+    items =
         let a = g.items in
         let b = g.owners_len in
         let d = e.items in
         omega arith;
-      small =
+    small =
         let b = g.owners_len in
         let d = g.most in
         omega arith;
-    }
+  }
     where
       enough_lists : (o n ol nl : ℕ) → ((number < o) × (n ≡ o)) ⊎ ((number ≡ o) × (n ≡ o + 1)) → nl ≡ ol + (number + 1 - ol) → o ≤ ol → n ≤ nl
       enough_lists o n ol nl len long was = elim len [
@@ -162,7 +162,7 @@ module _ (old new : Edges) (number room : ℕ) (e : AreEdges old) (g : Grows old
   new_idle : (l place : ℕ) → place < room → has_item (list_at new.links.lists l) (length old.owners.items + place) ≡ false
   new_idle l place lt = no_item (has_item (list_at new.links.lists l) (length old.owners.items + place)) (λ h.
       let was : has_item (list_at old.links.lists l) (length old.owners.items + place) ≡ true =
-        subst (λ (xs : List ℕ). has_item xs (length old.owners.items + place) ≡ true) (list_same l) h in
+      subst (λ (xs : List ℕ). has_item xs (length old.owners.items + place) ≡ true) (list_same l) h in
       let p = e.inside l (length old.owners.items + place) was in
       let r = (e.runs p.number p.there).1 in
       let a = p.same in
@@ -175,33 +175,34 @@ module _ (old new : Edges) (number room : ℕ) (e : AreEdges old) (g : Grows old
 
   pub grown_widened : (places : ℕ) → places ≤ room → Widened old new number places
   grown_widened places le = record {
-      there = there_now;
-      len = g.len;
-      wide = subst (λ (x : ℕ). places ≤ x) (sym room_here) le;
-      others = g.other;
-      lists = list_same;
-      idle = λ l place lt.
+    there = there_now;
+    len = g.len;
+    wide = subst (λ (x : ℕ). places ≤ x) (sym room_here) le;
+    others = g.other;
+    lists = list_same;
+    idle = λ l place lt.
         ap (λ (x : ℕ). has_item (list_at new.links.lists l) (x + place)) first_here ∙ new_idle l place (subst (λ (x : ℕ). place < x) room_here lt);
-    }
+  }
 
 -- the edges of one number went to other lists
 pub wired_edges : (old new : Edges) (number : ℕ) (names : ℕ → Option ℕ) → AreEdges old → new.runs.items ≡ old.runs.items → new.owners.items ≡ old.owners.items
     → length new.links.lists ≡ length old.links.lists → new.links.items ≡ old.links.items → number < length old.runs.items
     → Wires old.links.lists new.links.lists (first_at old.runs.items number) (room_at old.runs.items number) names → AreEdges new
 wired_edges old new number names e runs owners lists items there w = record {
-    runs = λ i lt.
-      let r = e.runs i (subst (λ (rs : List Run). i < length rs) runs lt) in
-      (subst (λ (rs : List Run). 4 ≤ room_at rs i) (sym runs) r.0,
-       subst (λ (rs : List Run). first_at rs i + room_at rs i ≤ length new.owners.items) (sym runs)
-        (subst (λ (os : List ℕ). first_at old.runs.items i + room_at old.runs.items i ≤ length os) (sym owners) r.1));
-    owned = λ i place lt small.
+  runs = λ i lt.
+      let r = e.runs i (subst (λ (rs : List Run). i < length rs) runs lt) in (
+        subst (λ (rs : List Run). 4 ≤ room_at rs i) (sym runs) r.0,
+        subst (λ (rs : List Run). first_at rs i + room_at rs i ≤ length new.owners.items) (sym runs)
+            (subst (λ (os : List ℕ). first_at old.runs.items i + room_at old.runs.items i ≤ length os) (sym owners) r.1),
+      );
+  owned = λ i place lt small.
       ap (λ (rs : List Run). owner_at new.owners.items (first_at rs i + place)) runs ∙ ap (λ (os : List ℕ). owner_at os (first_at old.runs.items i + place)) owners
       ∙ e.owned i place (subst (λ (rs : List Run). i < length rs) runs lt) (subst (λ (rs : List Run). place < room_at rs i) runs small);
-    inside = λ l edge h. subst (λ (rs : List Run). IsPlace rs edge) (sym runs) (place_of l edge h);
-    lists = let a : length new.runs.items ≡ length old.runs.items = ap length runs in let b = e.lists in omega arith;
-    items = let a : length new.owners.items ≡ length old.owners.items = ap length owners in let b = e.items in omega arith;
-    small = let a : length new.owners.items ≡ length old.owners.items = ap length owners in let b = e.small in omega arith;
-  }
+  inside = λ l edge h. subst (λ (rs : List Run). IsPlace rs edge) (sym runs) (place_of l edge h);
+  lists = let a : length new.runs.items ≡ length old.runs.items = ap length runs in let b = e.lists in omega arith;
+  items = let a : length new.owners.items ≡ length old.owners.items = ap length owners in let b = e.items in omega arith;
+  small = let a : length new.owners.items ≡ length old.owners.items = ap length owners in let b = e.small in omega arith;
+}
   where
     was : (l edge : ℕ) → (edge < first_at old.runs.items number) ⊎ (first_at old.runs.items number + room_at old.runs.items number ≤ edge)
         → has_item (list_at new.links.lists l) edge ≡ true → IsPlace old.runs.items edge
@@ -220,21 +221,21 @@ wired_edges old new number names e runs owners lists items there w = record {
 pub listed_wider : (old new : Edges) (number places : ℕ) (inputs : ℕ → List Held) → AreListed old inputs → inputs number ≡ []
     → Widened old new number places → AreListed new inputs
 listed_wider old new number places inputs a none w = record {
-    enough = λ i. elim (by_number i number) [
-      | inl same ↦ let z : length (inputs i) ≡ 0 = ap (λ (x : ℕ). length (inputs x)) same ∙ ap length none in omega arith
-      | inr ne ↦ subst (λ (r : Run). length (inputs i) ≤ r.room) (sym (w.others i ne)) (a.enough i)
-    ];
-    listed = λ l i place lt small. elim (by_number i number) [
-      | inl same ↦
-          ap (λ (x : ℕ). has_item (list_at new.links.lists l) (first_at new.runs.items x + place)) same
-          ∙ w.idle l place (subst (λ (x : ℕ). place < room_at new.runs.items x) same small)
-          ∙ sym (ap (λ (x : ℕ). is_number (signal_at (inputs x) place) l) same ∙ ap (λ (hs : List Held). is_number (signal_at hs place) l) none)
-      | inr ne ↦
-          ap (λ (xs : List ℕ). has_item xs (first_at new.runs.items i + place)) (w.lists l)
-          ∙ ap (λ (r : Run). has_item (list_at old.links.lists l) (r.first + place)) (w.others i ne)
-          ∙ a.listed l i place (was_before i ne lt) (subst (λ (r : Run). place < r.room) (w.others i ne) small)
-    ];
-  }
+  enough = λ i. elim (by_number i number) [
+    | inl same ↦ let z : length (inputs i) ≡ 0 = ap (λ (x : ℕ). length (inputs x)) same ∙ ap length none in omega arith
+    | inr ne ↦ subst (λ (r : Run). length (inputs i) ≤ r.room) (sym (w.others i ne)) (a.enough i)
+  ];
+  listed = λ l i place lt small. elim (by_number i number) [
+    | inl same ↦
+        ap (λ (x : ℕ). has_item (list_at new.links.lists l) (first_at new.runs.items x + place)) same
+        ∙ w.idle l place (subst (λ (x : ℕ). place < room_at new.runs.items x) same small)
+        ∙ sym (ap (λ (x : ℕ). is_number (signal_at (inputs x) place) l) same ∙ ap (λ (hs : List Held). is_number (signal_at hs place) l) none)
+    | inr ne ↦
+        ap (λ (xs : List ℕ). has_item xs (first_at new.runs.items i + place)) (w.lists l)
+        ∙ ap (λ (r : Run). has_item (list_at old.links.lists l) (r.first + place)) (w.others i ne)
+        ∙ a.listed l i place (was_before i ne lt) (subst (λ (r : Run). place < r.room) (w.others i ne) small)
+  ];
+}
   where
     was_before : (i : ℕ) → i ≢ number → i < length new.runs.items → i < length old.runs.items
     was_before i ne lt = elim w.len [
@@ -247,11 +248,11 @@ pub listed_anew : (old new : Edges) (number : ℕ) (before after : ℕ → List 
     → number < length old.runs.items → length (after number) ≤ room_at old.runs.items number → ((i : ℕ) → i ≢ number → after i ≡ before i)
     → Wires old.links.lists new.links.lists (first_at old.runs.items number) (room_at old.runs.items number) (signal_at (after number)) → AreListed new after
 listed_anew old new number before after e a runs there wide others w = record {
-    enough = λ i. subst (λ (rs : List Run). length (after i) ≤ room_at rs i) (sym runs) (elim (by_number i number) [
-      | inl same ↦ subst (λ (x : ℕ). length (after x) ≤ room_at old.runs.items x) (sym same) wide
-      | inr ne ↦ subst (λ (hs : List Held). length hs ≤ room_at old.runs.items i) (sym (others i ne)) (a.enough i)
-    ]);
-    listed = λ l i place lt small.
+  enough = λ i. subst (λ (rs : List Run). length (after i) ≤ room_at rs i) (sym runs) (elim (by_number i number) [
+    | inl same ↦ subst (λ (x : ℕ). length (after x) ≤ room_at old.runs.items x) (sym same) wide
+    | inr ne ↦ subst (λ (hs : List Held). length hs ≤ room_at old.runs.items i) (sym (others i ne)) (a.enough i)
+  ]);
+  listed = λ l i place lt small.
       let lt' : i < length old.runs.items = subst (λ (rs : List Run). i < length rs) runs lt in
       let small' : place < room_at old.runs.items i = subst (λ (rs : List Run). place < room_at rs i) runs small in
       ap (λ (rs : List Run). has_item (list_at new.links.lists l) (first_at rs i + place)) runs
@@ -264,7 +265,7 @@ listed_anew old new number before after e a runs there wide others w = record {
             w.others l (first_at old.runs.items i + place) (away i place ne lt' small') ∙ a.listed l i place lt' small'
             ∙ ap (λ (hs : List Held). is_number (signal_at hs place) l) (sym (others i ne))
       ];
-  }
+}
   where
     -- the edges of another number are others
     away : (i place : ℕ) → i ≢ number → i < length old.runs.items → place < room_at old.runs.items i

@@ -153,7 +153,7 @@ pub record AreListed (e : Edges) (inputs : ℕ → List Held) : Type 0 where
 pub record IsStore (limit : ℕ) (table : Table) (edges : Edges) : Type 0 where
   pub small : limit ≤ 4194304
   pub few : length table.keys.items ≤ limit
-  pub table : IsTable table
-  pub edges : AreEdges edges
+  pub kept_table : IsTable table
+  pub kept_edges : AreEdges edges
   pub runs : length edges.runs.items ≡ length table.keys.items
   pub listed : AreListed edges (inputs_at table)

@@ -1,6 +1,7 @@
 ghost use Rattle.std.specs.Prelude.{◌≡◌, Some};
 ghost use Rattle.slab.specs.Slab.{ContainsKey, get, with_value};
 ghost use Rattle.fr_store.specs.Kept.{changed};
+ghost use Rattle.fr_store.specs.Nodes.{cleared};
 
 use crate::inputs::Inputs;
 use crate::node::{Cell, Node, NodeKind};

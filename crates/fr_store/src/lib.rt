@@ -12,6 +12,3 @@ mod wiring;
 pub use inputs::{Input, Inputs};
 pub use node::{Cell, Code, Node, NodeKind};
 pub use store::{MakeStop, Store};
-
-#[cfg(test)]
-mod tests;

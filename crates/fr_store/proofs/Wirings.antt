@@ -13,16 +13,16 @@ wires_none lists first names = record { here = λ l place lt. absurd (omega arit
 pub wires_more : (old mid new : List (List ℕ)) (first room : ℕ) (names : ℕ → Option ℕ) (name : Option ℕ)
     → Wires old mid first room names → Wires mid new (first + room) 1 (λ _. name) → names room ≡ name → Wires old new first (room + 1) names
 wires_more old mid new first room names name w one same = record {
-    here = λ l place lt. elim (by_bound place room) [
-      | inl before ↦ one.others l (first + place) (inl (omega arith)) ∙ w.here l place before
-      | inr after ↦
-          let e : place ≡ room = omega arith in
-          let at : first + place ≡ first + room + 0 = omega arith in
-          ap (λ (k : ℕ). has_item (list_at new l) k) at ∙ one.here l 0 (omega arith)
-          ∙ ap (λ (o : Option ℕ). is_number o l) (sym same) ∙ ap (λ (k : ℕ). is_number (names k) l) (sym e)
-    ];
-    others = λ l edge away. one.others l edge (past edge away) ∙ w.others l edge (within edge away);
-  }
+  here = λ l place lt. elim (by_bound place room) [
+    | inl before ↦ one.others l (first + place) (inl (omega arith)) ∙ w.here l place before
+    | inr after ↦
+        let e : place ≡ room = omega arith in
+        let at : first + place ≡ first + room + 0 = omega arith in
+        ap (λ (k : ℕ). has_item (list_at new l) k) at ∙ one.here l 0 (omega arith)
+        ∙ ap (λ (o : Option ℕ). is_number o l) (sym same) ∙ ap (λ (k : ℕ). is_number (names k) l) (sym e)
+  ];
+  others = λ l edge away. one.others l edge (past edge away) ∙ w.others l edge (within edge away);
+}
   where
     past : (edge : ℕ) → (edge < first) ⊎ (first + (room + 1) ≤ edge) → (edge < first + room) ⊎ (first + room + 1 ≤ edge)
     past edge away = elim away [ inl lt ↦ inl (omega arith) | inr le ↦ inr (omega arith) ]
@@ -33,27 +33,27 @@ wires_more old mid new first room names name w one same = record {
 -- an edge that is in no list stays out
 pub wires_idle : (lists : List (List ℕ)) (edge : ℕ) → ((l : ℕ) → has_item (list_at lists l) edge ≡ false) → Wires lists lists edge 1 (λ _. None)
 wires_idle lists edge absent = record {
-    here = λ l place lt. let e : edge + place ≡ edge = omega arith in ap (λ (k : ℕ). has_item (list_at lists l) k) e ∙ absent l;
-    others = λ l other away. refl;
-  }
+  here = λ l place lt. let e : edge + place ≡ edge = omega arith in ap (λ (k : ℕ). has_item (list_at lists l) k) e ∙ absent l;
+  others = λ l other away. refl;
+}
 
 apart_of : (first edge : ℕ) → (edge < first) ⊎ (first + 1 ≤ edge) → edge ≢ first
 apart_of first edge away e = elim away [ inl lt ↦ omega arith | inr le ↦ omega arith ]
 
 pub wires_without : (lists : List (List ℕ)) (edge : ℕ) → Wires lists (without lists edge) edge 1 (λ _. None)
 wires_without lists edge = record {
-    here = λ l place lt. let e : edge + place ≡ edge = omega arith in
+  here = λ l place lt. let e : edge + place ≡ edge = omega arith in
       ap (λ (k : ℕ). has_item (list_at (without lists edge) l) k) e ∙ without_here lists edge l;
-    others = λ l other away. without_other lists edge l other (apart_of edge other away);
-  }
+  others = λ l other away. without_other lists edge l other (apart_of edge other away);
+}
 
 pub wires_last : (lists : List (List ℕ)) (edge name : ℕ) → name < length lists → ((l : ℕ) → has_item (list_at lists l) edge ≡ false)
     → Wires lists (with_last lists name edge) edge 1 (λ _. Some name)
 wires_last lists edge name lt absent = record {
-    here = λ l place small. let e : edge + place ≡ edge = omega arith in
+  here = λ l place small. let e : edge + place ≡ edge = omega arith in
       ap (λ (k : ℕ). has_item (list_at (with_last lists name edge) l) k) e ∙ now l;
-    others = λ l other away. last_other lists name edge l other lt (apart_of edge other away);
-  }
+  others = λ l other away. last_other lists name edge l other lt (apart_of edge other away);
+}
   where
     now : (l : ℕ) → has_item (list_at (with_last lists name edge) l) edge ≡ nat_eq name l
     now l = elim (by_number l name) [
@@ -69,12 +69,12 @@ pub wires_wide : (old new : List (List ℕ)) (first few room : ℕ) (names : ℕ
     → ((l place : ℕ) → place < room → has_item (list_at old l) (first + place) ≡ false) → ((place : ℕ) → few ≤ place → names place ≡ None)
     → Wires old new first room names
 wires_wide old new first few room names le w idle none = record {
-    here = λ l place lt. elim (by_bound place few) [
-      | inl before ↦ w.here l place before
-      | inr after ↦ w.others l (first + place) (inr (omega arith)) ∙ idle l place lt ∙ ap (λ (o : Option ℕ). is_number o l) (sym (none place after))
-    ];
-    others = λ l edge away. w.others l edge (within edge away);
-  }
+  here = λ l place lt. elim (by_bound place few) [
+    | inl before ↦ w.here l place before
+    | inr after ↦ w.others l (first + place) (inr (omega arith)) ∙ idle l place lt ∙ ap (λ (o : Option ℕ). is_number o l) (sym (none place after))
+  ];
+  others = λ l edge away. w.others l edge (within edge away);
+}
   where
     within : (edge : ℕ) → (edge < first) ⊎ (first + room ≤ edge) → (edge < first) ⊎ (first + few ≤ edge)
     within edge away = elim away [ inl lt ↦ inl lt | inr far ↦ inr (omega arith) ]
@@ -83,6 +83,6 @@ wires_wide old new first few room names le w idle none = record {
 pub wires_anew : (old mid new : List (List ℕ)) (first room : ℕ) (names : ℕ → Option ℕ)
     → Wires old mid first room (λ _. None) → Wires mid new first room names → Wires old new first room names
 wires_anew old mid new first room names out w = record {
-    here = w.here;
-    others = λ l edge away. w.others l edge away ∙ out.others l edge away;
-  }
+  here = w.here;
+  others = λ l edge away. w.others l edge away ∙ out.others l edge away;
+}
