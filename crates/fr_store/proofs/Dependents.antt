@@ -3,7 +3,7 @@ use Rattle.std.proofs.Common.{◌≡◌, ◌≢◌, ℕ, zero, suc, ◌+◌, ◌
 use Rattle.std.specs.Option.{option_map}
 use Rattle.std.proofs.lemmas.List.{get_or-map, get_or_past, length-map}
 use Rattle.fr_links.specs.Lists.{has_item, list_at}
-use Rattle.fr_links.proofs.Has.{by_truth, eq_is, eq_self, or_case, or_none, or_right, true_false}
+use Rattle.fr_links.proofs.Has.{by_truth, eq_is, eq_self, or_case, or_none, true_false}
 use Rattle.fr_value.specs.declared.now.Held.{Held}
 use Rattle.fr_store.specs.declared.edges.Edges.{Edges}
 use Rattle.fr_store.specs.declared.edges.Run.{Run}
@@ -24,6 +24,10 @@ both_and false b e f = cc
 or_left : (a b : Bool) → a ≡ true → (a || b) ≡ true
 or_left true b e = refl
 or_left false b e = cc
+
+or_right : (a b : Bool) → b ≡ true → (a || b) ≡ true
+or_right true b e = refl
+or_right false b e = e
 
 -- an edge among those of these numbers
 edge_in : (runs : List Run) (owners xs : List ℕ) (j place : ℕ) → has_edge (map (edge_of runs owners) xs) j place ≡ true
