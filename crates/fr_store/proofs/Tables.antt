@@ -1,7 +1,7 @@
 -- A table of nodes through its changes.
 use Rattle.std.proofs.Common.{◌≡◌, ◌≢◌, ℕ, zero, suc, ◌+◌, ◌-◌, ◌<◌, ◌≤◌, List, [], ◌∷◌, ◌++◌, length, map, replicate, ◌⊎◌, inl, inr, Option, Some, None, IsSome, Bool, true, false, nat_eq, cond, is_some, count_by, vec_capacity, get_or, slice_set, slice_index_or, refl, sym, ap, ◌∙◌, subst, arith, get_or-set_same, get_or-set_other, length-set, length-append}
 use Rattle.std.proofs.lemmas.List.{append-nil, get_or-map, get_or_past, length-map, same_lists}
-use Rattle.std.proofs.lemmas.List.Sums.{sum_by-set, sum_by_push}
+use Rattle.std.proofs.lemmas.List.Sums.{get_or-le-sum_by, sum_by-set, sum_by_push}
 use Rattle.slab.specs.Slab.{Slab, get, with_value, Updates}
 use Rattle.slab.proofs.SlabLemmas.{Updates-with_value}
 use Rattle.fr_links.specs.Lists.{has_item}
@@ -137,7 +137,6 @@ table_written old new i key m t e room at written =
     ap (λ (b : Bool). cond b 1 0) (ap is_some (node_by_key old.nodes old.keys.items i ∙ ap (node_under old.nodes) at) ∙ t.keyed i key at) in
     let after : count_by is_some (nodes_of new) ≡ count_by is_some (slice_set (nodes_of old) i (Some m)) =
     ap (count_by is_some) (nodes_written old new i key m t e at written) in
-    let d : cond (is_some (Some m)) 1 0 ≡ 1 = refl in
     after ∙ same_sum (count_by is_some (slice_set (nodes_of old) i (Some m))) (count_by is_some (nodes_of old)) (cond (is_some (node_in (nodes_of old) i)) 1 0) had c)
   where
     same_sum : (a b x : ℕ) → x ≡ 1 → a + x ≡ b + 1 → a ≡ b
@@ -412,8 +411,8 @@ module _ (old new : Table) (i key : ℕ) (t : IsTable old) (r : Freed old new i 
           let f = t.free j was in
           let ne : j ≢ i = λ e. true_false (has_item old.free.items j) was (ap (λ (x : ℕ). has_item old.free.items x) e ∙ not_listed) in
           (subst (λ (m : ℕ). j < m) (sym same_long) f.0, same_other j ne ∙ f.1)
-      | inr new ↦
-          let e : i ≡ j = only i j new in
+      | inr last ↦
+          let e : i ≡ j = only i j last in
           (subst (λ (x : ℕ). x < length new.keys.items) e (subst (λ (m : ℕ). i < m) (sym same_long) within), ap (λ (x : ℕ). key_at new.keys.items x) (sym e) ∙ none_here)
     ];
     free_once = subst AllDifferent (sym r.free) (different_push old.free.items i t.free_once not_listed);
@@ -435,3 +434,30 @@ module _ (old new : Table) (i key : ℕ) (t : IsTable old) (r : Freed old new i 
 
       only : (x y : ℕ) → has_item (x ∷ []) y ≡ true → x ≡ y
       only x y h = or_case (nat_eq x y) false h (λ e. eq_is x y e) (λ f. cc)
+
+-- what is under the key of a number is its node
+pub under_key : (t : Table) (i key : ℕ) (n : Node) → key_at t.keys.items i ≡ Some key → node_in (nodes_of t) i ≡ Some n → get t.nodes key ≡ Some n
+under_key t i key n at e = sym (node_by_key t.nodes t.keys.items i ∙ ap (node_under t.nodes) at) ∙ e
+
+-- a free number is one of those that there are
+pub free_within : (t : Table) (rest : List ℕ) (i : ℕ) → IsTable t → t.free.items ≡ rest ++ i ∷ [] → i < length t.keys.items
+free_within t rest i k e = (k.free i (subst (λ (fs : List ℕ). has_item fs i ≡ true) (sym e) (has_append_right rest (i ∷ []) i (here i [])))).0
+
+pub no_items : {A : Type 0} (xs : List A) → length xs ≡ 0 → xs ≡ []
+no_items [] e = refl
+no_items (x ∷ xs) e = absurd (omega arith)
+
+-- where there is a node the count isn't 0
+pub some_counted : (t : Table) (i : ℕ) → IsTable t → IsSome (node_in (nodes_of t) i) → 1 ≤ t.count
+some_counted t i k s = by (node_in (nodes_of t) i) refl s
+  where
+    at_least : (x sum count : ℕ) → x ≡ 1 → x ≤ sum → count ≡ sum → 1 ≤ count
+    at_least x sum count a b d = omega arith
+
+    by : (o : Option Node) → node_in (nodes_of t) i ≡ o → IsSome o → 1 ≤ t.count
+    by None e h = cc
+    by (Some n) e h =
+        let key = key_of t.nodes t.keys.items i n e in
+        let lt : i < length (nodes_of t) = subst (λ (m : ℕ). i < m) (sym (length-map t.keys.items (node_under t.nodes))) (key_within t.keys.items i key.0 key.1) in
+        let c = get_or-le-sum_by (λ o. cond (is_some o) 1 0) (nodes_of t) i None lt in
+        at_least (cond (is_some (node_in (nodes_of t) i)) 1 0) (count_by is_some (nodes_of t)) t.count (ap (λ (o : Option Node). cond (is_some o) 1 0) e) c k.counted

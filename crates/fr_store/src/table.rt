@@ -1,5 +1,6 @@
 ghost use Rattle.std.specs.Prelude.{◌≡◌, ℕ, ◌+◌, ◌<◌, ◌≤◌, ◌↔◌, [], Some, None, OnOk, OnErr, IsSome, length, slice_set};
 ghost use Rattle.std.specs.Option.{option_copied};
+ghost use Rattle.slab.specs.Slab.{Updates};
 ghost use Rattle.fr_store.specs.Nodes.{node_in, placed};
 ghost use Rattle.fr_store.specs.Kept.{IsTable, IsReady, SameTable, SameNumbers, changed, key_at, next_number, nodes_of};
 
@@ -124,10 +125,16 @@ impl Table {
     {
         let NodeId(number) = id;
         if let Some(key) = self.key(id) {
-            self.nodes.try_remove(key);
+            discard(&mut self.nodes, key);
             self.keys[number as usize] = None;
             self.free.push_reserved(number);
             self.count -= 1;
         }
     }
+}
+
+fn discard(nodes: &mut Slab<Node>, key: usize)
+    ensures { Updates nodes.old nodes.new key None }
+{
+    nodes.try_remove(key);
 }
