@@ -1,5 +1,5 @@
 -- Edges through their changes.
-use Rattle.std.proofs.Common.{◌≡◌, ◌≢◌, ℕ, zero, suc, ◌+◌, ◌-◌, ◌<◌, ◌≤◌, List, [], ◌∷◌, ◌++◌, length, replicate, max, ◌⊎◌, inl, inr, Option, Some, None, Bool, true, false, refl, sym, ap, ◌∙◌, subst, arith, length-append}
+use Rattle.std.proofs.Common.{◌≡◌, ◌≢◌, ℕ, zero, suc, ◌+◌, ◌-◌, ◌<◌, ◌≤◌, List, [], ◌∷◌, ◌++◌, length, replicate, max, ◌⊎◌, inl, inr, Option, Some, None, Bool, true, false, refl, sym, ap, ◌∙◌, subst, arith, get_or-set_same, get_or-set_other, length-append, length-set, slice_set}
 use Rattle.std.proofs.lemmas.List.{get_or-append_right, get_or-replicate, get_or_append_left, get_or_past, length-replicate}
 use Rattle.fr_links.specs.Lists.{has_item, list_at, with_empty}
 use Rattle.fr_links.proofs.Has.{true_false}
@@ -281,4 +281,50 @@ listed_anew old new number before after e a runs there wide others w = record {
             ∙ ap (owner_at old.owners.items) (sym eq)
             ∙ e.owned number (first_at old.runs.items i + place - first_at old.runs.items number) there (omega arith)))
       ]
+    ]
+
+pub grows : (old new : Edges) (number room first many : ℕ)
+    → ((number < length old.runs.items) × (new.runs.items ≡ slice_set old.runs.items number (record { first = first; room = room })))
+      ⊎ ((number ≡ length old.runs.items) × (new.runs.items ≡ old.runs.items ++ (record { first = first; room = room }) ∷ []))
+    → first ≡ length old.owners.items → many ≡ length old.owners.items → length new.owners.items ≡ first + room
+    → ((k : ℕ) → k < first + room → k < many → owner_at new.owners.items k ≡ owner_at old.owners.items k)
+    → ((k : ℕ) → many ≤ k → k < first + room → owner_at new.owners.items k ≡ number)
+    → new.links.lists ≡ with_empty old.links.lists (number + 1) → new.links.items ≡ max old.links.items (first + room) → 4 ≤ room
+    → first + room ≤ 2147483648 → Grows old new number room
+grows old new number room first many runs at len long before behind lists items four most = record {
+    run = here ∙ ap (λ (n : ℕ). record { first = n; room = room }) at;
+    other = other;
+    len = elim runs [
+      | inl s ↦ inl (s.0, ap length s.1 ∙ length-set old.runs.items number (record { first = first; room = room }))
+      | inr p ↦ inr (p.0, ap length p.1 ∙ length-append old.runs.items ((record { first = first; room = room }) ∷ []))
+    ];
+    owners_len = long ∙ ap (λ (n : ℕ). n + room) at;
+    owners_old = λ edge lt. before edge (omega arith) (omega arith);
+    owners_new = λ edge le lt. behind edge (omega arith) (omega arith);
+    lists = lists;
+    items = items ∙ ap (λ (n : ℕ). max old.links.items (n + room)) at;
+    four = four;
+    most = subst (λ (n : ℕ). n + room ≤ 2147483648) at most;
+  }
+  where
+    at_end : (rs : List Run) (r : Run) → run_at (rs ++ r ∷ []) (length rs) ≡ r
+    at_end [] r = refl
+    at_end (x ∷ rs) r = at_end rs r
+
+    not_end : (rs : List Run) (r : Run) (i : ℕ) → i ≢ length rs → run_at (rs ++ r ∷ []) i ≡ run_at rs i
+    not_end [] r zero ne = absurd (ne refl)
+    not_end [] r (suc i) ne = refl
+    not_end (x ∷ rs) r zero ne = refl
+    not_end (x ∷ rs) r (suc i) ne = not_end rs r i (λ e. ne (ap suc e))
+
+    here : run_at new.runs.items number ≡ record { first = first; room = room }
+    here = elim runs [
+      | inl s ↦ ap (λ (rs : List Run). run_at rs number) s.1 ∙ get_or-set_same old.runs.items number (record { first = first; room = room }) (record { first = 0; room = 0 }) s.0
+      | inr p ↦ ap (λ (rs : List Run). run_at rs number) p.1 ∙ ap (λ (n : ℕ). run_at (old.runs.items ++ (record { first = first; room = room }) ∷ []) n) p.0 ∙ at_end old.runs.items (record { first = first; room = room })
+    ]
+
+    other : (i : ℕ) → i ≢ number → run_at new.runs.items i ≡ run_at old.runs.items i
+    other i ne = elim runs [
+      | inl s ↦ ap (λ (rs : List Run). run_at rs i) s.1 ∙ get_or-set_other old.runs.items number i (record { first = first; room = room }) (record { first = 0; room = 0 }) ne
+      | inr p ↦ ap (λ (rs : List Run). run_at rs i) p.1 ∙ not_end old.runs.items (record { first = first; room = room }) i (λ e. ne (e ∙ sym p.0))
     ]

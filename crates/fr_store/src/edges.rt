@@ -74,8 +74,9 @@ impl Edges {
             return Err(AllocError);
         }
         self.runs.reserve(1)?;
-        self.owners.resize(first + room, number as u32)?;
+        self.owners.reserve(room)?;
         self.links.reserve(number + 1, first + room)?;
+        self.owners.resize(first + room, number as u32)?;
         let run = Run {
             first: first as u32,
             room: room as u32,
