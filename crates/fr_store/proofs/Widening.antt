@@ -285,27 +285,27 @@ listed_anew old new number before after e a runs there wide others w = record {
 
 pub grows : (old new : Edges) (number room first many : ℕ)
     → ((number < length old.runs.items) × (new.runs.items ≡ slice_set old.runs.items number (record { first = first; room = room })))
-      ⊎ ((number ≡ length old.runs.items) × (new.runs.items ≡ old.runs.items ++ (record { first = first; room = room }) ∷ []))
+    ⊎ ((number ≡ length old.runs.items) × (new.runs.items ≡ old.runs.items ++ (record { first = first; room = room }) ∷ []))
     → first ≡ length old.owners.items → many ≡ length old.owners.items → length new.owners.items ≡ first + room
     → ((k : ℕ) → k < first + room → k < many → owner_at new.owners.items k ≡ owner_at old.owners.items k)
     → ((k : ℕ) → many ≤ k → k < first + room → owner_at new.owners.items k ≡ number)
     → new.links.lists ≡ with_empty old.links.lists (number + 1) → new.links.items ≡ max old.links.items (first + room) → 4 ≤ room
     → first + room ≤ 2147483648 → Grows old new number room
 grows old new number room first many runs at len long before behind lists items four most = record {
-    run = here ∙ ap (λ (n : ℕ). record { first = n; room = room }) at;
-    other = other;
-    len = elim runs [
-      | inl s ↦ inl (s.0, ap length s.1 ∙ length-set old.runs.items number (record { first = first; room = room }))
-      | inr p ↦ inr (p.0, ap length p.1 ∙ length-append old.runs.items ((record { first = first; room = room }) ∷ []))
-    ];
-    owners_len = long ∙ ap (λ (n : ℕ). n + room) at;
-    owners_old = λ edge lt. before edge (omega arith) (omega arith);
-    owners_new = λ edge le lt. behind edge (omega arith) (omega arith);
-    lists = lists;
-    items = items ∙ ap (λ (n : ℕ). max old.links.items (n + room)) at;
-    four = four;
-    most = subst (λ (n : ℕ). n + room ≤ 2147483648) at most;
-  }
+  run = here ∙ ap (λ (n : ℕ). record { first = n; room = room }) at;
+  other = other;
+  len = elim runs [
+    | inl s ↦ inl (s.0, ap length s.1 ∙ length-set old.runs.items number (record { first = first; room = room }))
+    | inr p ↦ inr (p.0, ap length p.1 ∙ length-append old.runs.items ((record { first = first; room = room }) ∷ []))
+  ];
+  owners_len = long ∙ ap (λ (n : ℕ). n + room) at;
+  owners_old = λ edge lt. before edge (omega arith) (omega arith);
+  owners_new = λ edge le lt. behind edge (omega arith) (omega arith);
+  lists = lists;
+  items = items ∙ ap (λ (n : ℕ). max old.links.items (n + room)) at;
+  four = four;
+  most = subst (λ (n : ℕ). n + room ≤ 2147483648) at most;
+}
   where
     at_end : (rs : List Run) (r : Run) → run_at (rs ++ r ∷ []) (length rs) ≡ r
     at_end [] r = refl

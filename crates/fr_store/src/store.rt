@@ -1,5 +1,5 @@
-ghost use Rattle.std.specs.Prelude.{◌≡◌, ℕ, ◌+◌, ◌^◌, ◌≤◌, ◌↔◌, [], ◌∷◌, true, Some, None, Err, IfOk, OnErr, IsSome, IsTrue, is_some, count_by};
-ghost use Rattle.fr_store.specs.Kept.{KeepsInputs, changed, nodes_of};
+ghost use Rattle.std.specs.Prelude.{◌≡◌, ℕ, ◌+◌, ◌^◌, ◌<◌, ◌≤◌, ◌↔◌, [], ◌∷◌, true, Some, None, Err, IfOk, OnOk, OnErr, length, IsSome, IsTrue, is_some, count_by};
+ghost use Rattle.fr_store.specs.Kept.{AreEdges, AreListed, IsReady, IsTable, KeepsInputs, SameEdges, SameTable, Widened, changed, inputs_at, next_number, nodes_of};
 ghost use Rattle.fr_store.specs.Nodes.{Edge, Stored, StandsAt, IsEdge, AreDependents, AreLive, AreLow, Makes, Renames, node_at, node_in, height_in, reads, dependents_at, edge_number, new_node, least_height, computed, latched, rewired, tied, lifted, cleared, with_node};
 
 use crate::change::Change;
@@ -97,11 +97,8 @@ impl Store {
             return Err(MakeStop::TooMany);
         }
         let height = least_height(&self.table, floor, inputs);
-        let inputs = Inputs::of(self.alloc, inputs)?;
-        self.table.reserve()?;
-        let number = self.table.next();
-        self.edges.widen(number, inputs.len())?;
-        self.edges.wire(number, &inputs);
+        let inputs = prepare(self.alloc, &mut self.table, &mut self.edges, inputs)?;
+        self.edges.wire(self.table.next(), &inputs);
         let id = self.table.put(Node {
             kind,
             inputs,
@@ -245,6 +242,32 @@ impl Store {
     {
         self.table.change(id, change);
     }
+}
+
+/// Takes all the memory that a node of these inputs needs, and gives the inputs as they are kept.
+fn prepare(
+    alloc: Global,
+    table: &mut Table,
+    edges: &mut Edges,
+    inputs: &[Held],
+) -> Result<Inputs, AllocError>
+    requires table { IsTable table.old }
+    requires edges { AreEdges edges.old }
+    requires runs { length edges.old.runs.items ≡ length table.old.keys.items }
+    requires few { table.old.count < 4194304 }
+    requires listed { AreListed edges.old (inputs_at table.old) }
+    ensures inputs { IfOk result (λ held. held ≡ inputs.now) }
+    ensures table { IsTable table.new }
+    ensures same { SameTable table.old table.new }
+    ensures ready { OnOk result (IsReady table.new) }
+    ensures edges { AreEdges edges.new }
+    ensures wide { OnOk result (Widened edges.old edges.new (next_number table.new) (length inputs.now)) }
+    ensures err { OnErr result (SameEdges edges.old edges.new) }
+{
+    let held = Inputs::of(alloc, inputs)?;
+    table.reserve()?;
+    edges.widen(table.next(), held.len())?;
+    Ok(held)
 }
 
 fn least_height(table: &Table, floor: u128, inputs: &[Held]) -> u128

@@ -13,10 +13,10 @@ link_one-requires-clause-idle c = λ l. c.loop-place.invariant.wired.others l _ 
 
 pub loop-place-preserved : goal.loop-place-preserved
 loop-place-preserved c = record {
-    lists = c.link_one.ensures.lists ∙ c.loop-place.invariant.lists;
-    items = c.link_one.ensures.items ∙ c.loop-place.invariant.items;
-    wired = wires_more c.args.links.now.lists c.loop-place.links.lists c.link_one.new.links.lists c.args.first c.loop-place.place (signal_at c.args.inputs.now) _ c.loop-place.invariant.wired c.link_one.ensures.wired (sym c.signal-id.ensures);
-  }
+  lists = c.link_one.ensures.lists ∙ c.loop-place.invariant.lists;
+  items = c.link_one.ensures.items ∙ c.loop-place.invariant.items;
+  wired = wires_more c.args.links.now.lists c.loop-place.links.lists c.link_one.new.links.lists c.args.first c.loop-place.place (signal_at c.args.inputs.now) _ c.loop-place.invariant.wired c.link_one.ensures.wired (sym c.signal-id.ensures);
+}
 
 pub returns-clause-wired : goal.returns-clause-wired
 returns-clause-wired c =

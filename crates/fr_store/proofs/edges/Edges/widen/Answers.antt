@@ -15,7 +15,7 @@ returns-in_err-resize-clause-err c = let a = c.in_ok-reserve-2.ensures.ok in let
 in_place : (c : goal.After-self-1) → Grows c.args.self.now (record { runs = with_item c.reserve.new.self c.args.number (record { first = c.len-first.result; room = c.max-room.result }); owners = c.resize.new.self; links = c.reserve-3.new.self }) c.args.number c.max-room.result
 in_place c =
     let lt : c.args.number < length c.args.self.now.runs.items =
-      (let a = c.if-number-len-2.true in let b = c.len-2.ensures in let d = c.reserve.ensures.len in let e = c.args.self.now.runs.ok.0 in omega arith) in
+    (let a = c.if-number-len-2.true in let b = c.len-2.ensures in let d = c.reserve.ensures.len in let e = c.args.self.now.runs.ok.0 in omega arith) in
     let small = c.requires.sound.small in
     let first : c.len-first.result ≡ length c.args.self.now.owners.items = c.len-first.ensures ∙ c.args.self.now.owners.ok.0 in
     let most = c.if-room-first.false in
@@ -29,7 +29,7 @@ in_place c =
 at_the_end : (c : goal.After-push_reserved) → Grows c.args.self.now (record { runs = c.push_reserved.new.self; owners = c.resize.new.self; links = c.reserve-3.new.self }) c.args.number c.max-room.result
 at_the_end c =
     let same : c.args.number ≡ length c.args.self.now.runs.items =
-      (let a = c.if-number-len-2.false in let b = c.len-2.ensures in let d = c.reserve.ensures.len in let e = c.args.self.now.runs.ok.0 in let f = c.requires.near in omega arith) in
+    (let a = c.if-number-len-2.false in let b = c.len-2.ensures in let d = c.reserve.ensures.len in let e = c.args.self.now.runs.ok.0 in let f = c.requires.near in omega arith) in
     let small = c.requires.sound.small in
     let first : c.len-first.result ≡ length c.args.self.now.owners.items = c.len-first.ensures ∙ c.args.self.now.owners.ok.0 in
     let most = c.if-room-first.false in

@@ -41,11 +41,11 @@ returns-clause-sound c =
     wired_edges c.args.self.now _ c.args.number (signal_at c.args.inputs.now) c.requires.sound refl refl
     (c.link.ensures.lists ∙ c.unlink.ensures.lists) (c.link.ensures.items ∙ c.unlink.ensures.items) c.requires.there
     (subst (λ (n : ℕ). Wires c.args.self.now.links.lists c.link.new.links.lists n (room_at c.args.self.now.runs.items c.args.number) (signal_at c.args.inputs.now)) c.run-run.ensures.first
-      (subst (λ (n : ℕ). Wires c.args.self.now.links.lists c.link.new.links.lists c.run-run.result.first n (signal_at c.args.inputs.now)) c.run-run.ensures.room
-        (wires_anew c.args.self.now.links.lists c.unlink.new.links.lists c.link.new.links.lists c.run-run.result.first c.run-run.result.room (signal_at c.args.inputs.now) c.unlink.ensures.wired c.link.ensures.wired)))
+    (subst (λ (n : ℕ). Wires c.args.self.now.links.lists c.link.new.links.lists c.run-run.result.first n (signal_at c.args.inputs.now)) c.run-run.ensures.room
+    (wires_anew c.args.self.now.links.lists c.unlink.new.links.lists c.link.new.links.lists c.run-run.result.first c.run-run.result.room (signal_at c.args.inputs.now) c.unlink.ensures.wired c.link.ensures.wired)))
 
 pub returns-clause-wired : goal.returns-clause-wired
 returns-clause-wired c =
     subst (λ (n : ℕ). Wires c.args.self.now.links.lists c.link.new.links.lists n (room_at c.args.self.now.runs.items c.args.number) (signal_at c.args.inputs.now)) c.run-run.ensures.first
-      (subst (λ (n : ℕ). Wires c.args.self.now.links.lists c.link.new.links.lists c.run-run.result.first n (signal_at c.args.inputs.now)) c.run-run.ensures.room
-        (wires_anew c.args.self.now.links.lists c.unlink.new.links.lists c.link.new.links.lists c.run-run.result.first c.run-run.result.room (signal_at c.args.inputs.now) c.unlink.ensures.wired c.link.ensures.wired))
+    (subst (λ (n : ℕ). Wires c.args.self.now.links.lists c.link.new.links.lists c.run-run.result.first n (signal_at c.args.inputs.now)) c.run-run.ensures.room
+    (wires_anew c.args.self.now.links.lists c.unlink.new.links.lists c.link.new.links.lists c.run-run.result.first c.run-run.result.room (signal_at c.args.inputs.now) c.unlink.ensures.wired c.link.ensures.wired))

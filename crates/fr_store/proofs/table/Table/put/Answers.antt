@@ -10,7 +10,7 @@ use Rattle.fr_store.proofs.table.Table.put.Goals as goal
 pub index_mut-requires : goal.index_mut-requires
 index_mut-requires c =
     let lt = free_within c.args.self.now c.pop.new.self.items c.in-Some.number c.requires.sound
-      (c.pop.ensures.items ∙ ap (λ (o : Option ℕ). c.pop.new.self.items ++ option_to_list o) c.in-Some.is) in
+    (c.pop.ensures.items ∙ ap (λ (o : Option ℕ). c.pop.new.self.items ++ option_to_list o) c.in-Some.is) in
     subst (λ (n : ℕ). c.in-Some.number < n) (sym c.args.self.now.keys.ok.0) lt
 
 pub returns-in-Some-clause-sound : goal.returns-in-Some-clause-sound
