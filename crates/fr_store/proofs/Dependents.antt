@@ -9,7 +9,7 @@ use Rattle.fr_store.specs.declared.edges.Edges.{Edges}
 use Rattle.fr_store.specs.declared.edges.Run.{Run}
 use Rattle.fr_store.specs.declared.node.Node.{Node}
 use Rattle.fr_store.specs.declared.table.Table.{Table}
-use Rattle.fr_store.specs.Nodes.{AreDependents, Edge, dependents_at, edge_number, has_edge, has_reader, is_number, named, node_at, node_in, reads, signal_at}
+use Rattle.fr_store.specs.Nodes.{AreDependents, Edge, StandsAt, dependents_at, edge_number, has_edge, has_reader, is_number, named, node_at, node_in, reads, signal_at}
 use Rattle.fr_store.specs.Kept.{AreEdges, AreListed, IsPlace, IsStore, edge_of, first_at, inputs_at, inputs_in, nodes_of, owner_at, room_at, stored_in}
 use Rattle.fr_store.proofs.Lists.{by_bound, by_number, same_tests}
 
@@ -193,3 +193,16 @@ module _ (limit : ℕ) (t : Table) (e : Edges) (s : IsStore limit t e) (i : ℕ)
 
   pub exact_dependents : AreDependents (stored_in limit t e) i (dependents_at (stored_in limit t e) i)
   exact_dependents = subst (λ (es : List Edge). AreDependents (stored_in limit t e) i es) (sym (dependents_are limit t e i)) exact
+
+-- where an edge stands, it is an item of the list
+pub edge_item : (limit : ℕ) (t : Table) (e : Edges) (edge i place : ℕ) (d : Edge) → StandsAt (stored_in limit t e) edge i place d
+    → (slice_get (list_at e.links.lists i) place ≡ Some edge) × (d ≡ edge_of e.runs.items e.owners.items edge)
+edge_item limit t e edge i place d s =
+    let r = edge_there e.runs.items e.owners.items (list_at e.links.lists i) place d (ap (λ (es : List Edge). slice_get es place) (sym (dependents_are limit t e i)) ∙ s.here) in
+    let same : r.0 ≡ edge = ap (λ (x : Edge). x.number) (sym r.2) ∙ s.same in
+    (r.1 ∙ ap Some same, r.2 ∙ ap (edge_of e.runs.items e.owners.items) same)
+
+pub seen_number : (limit : ℕ) (t : Table) (e : Edges) (i place : ℕ) → slice_get (list_at e.links.lists i) place ≡ edge_number (dependents_at (stored_in limit t e) i) place
+seen_number limit t e i place =
+    sym (numbers_of e.runs.items e.owners.items (list_at e.links.lists i) place)
+    ∙ ap (λ (es : List Edge). edge_number es place) (sym (dependents_are limit t e i))

@@ -1,7 +1,9 @@
 -- In which lists an item stands after one was put in or taken out.
-use Rattle.std.proofs.Common.{◌≡◌, ◌≢◌, ℕ, ◌<◌, ◌≤◌, List, [], ◌∷◌, ◌++◌, length, map, ◌⊎◌, inl, inr, Option, Some, None, IsSome, Bool, true, false, refl, sym, ap, ◌∙◌, subst, arith, get_or-set_same, get_or-set_other, length-set}
+use Rattle.std.proofs.Common.{◌≡◌, ◌≢◌, ℕ, ◌<◌, ◌≤◌, List, [], ◌∷◌, ◌++◌, length, map, ◌⊎◌, inl, inr, Option, Some, None, IsSome, Bool, true, false, cond, is_some, nat_lt, refl, sym, ap, ◌∙◌, subst, arith, get_or-set_same, get_or-set_other, length-set}
 use Rattle.std.proofs.lemmas.List.{get_or-map, get_or_past, length-map}
 use Rattle.std.proofs.lemmas.List.Quantifiers.{position-Some}
+use Rattle.std.proofs.lemmas.List.Sums.{fails_before_first}
+use Rattle.std.specs.List.{position_or_len}
 use Rattle.fr_links.specs.Lists.{has_item, list_at, list_of, others, with_last, without}
 use Rattle.fr_links.proofs.Has.{by_truth, eq_self, eq_is, has_append_cases, has_append_left, has_append_right, here, or_case, true_false}
 use Rattle.fr_links.proofs.Others.{others_absent, others_has, others_keeps}
@@ -75,3 +77,20 @@ without_other lists item l other apart =
     ap (λ (xs : List ℕ). has_item xs other) (list_without lists item l)
     ∙ same_tests (has_item (others (list_at lists l) item) other) (has_item (list_at lists l) other)
     (λ h. (others_has (list_at lists l) item other h).0) (λ h. others_keeps (list_at lists l) item other h apart)
+
+-- an item that stands in a list is in some list
+pub in_some : (lists : List (List ℕ)) (l item : ℕ) → has_item (list_at lists l) item ≡ true → IsSome (list_of lists item)
+in_some lists l item h =
+    let at : position_or_len (λ (xs : List ℕ). has_item xs item) lists ≤ l = elim (by_bound l (position_or_len (λ (xs : List ℕ). has_item xs item) lists)) [
+      | inl lt ↦ true_false (has_item (list_at lists l) item) h (fails_before_first (λ (xs : List ℕ). has_item xs item) lists l [] lt)
+      | inr le ↦ le
+    ] in
+    let there : l < length lists = elim (by_bound l (length lists)) [
+      | inl lt ↦ lt
+      | inr le ↦ true_false (has_item (list_at lists l) item) h (ap (λ (xs : List ℕ). has_item xs item) (get_or_past lists l [] le))
+    ] in
+    ap (λ (b : Bool). is_some (cond b (Some (position_or_len (λ (xs : List ℕ). has_item xs item) lists)) None))
+    (below (position_or_len (λ (xs : List ℕ). has_item xs item) lists) (length lists) (omega arith))
+  where
+    below : (i n : ℕ) → i < n → nat_lt i n ≡ true
+    below i n lt = grind arith

@@ -9,10 +9,11 @@ use Rattle.fr_store.specs.declared.edges.Edges.{Edges}
 use Rattle.fr_store.specs.declared.edges.Run.{Run}
 use Rattle.fr_store.specs.declared.node.Node.{Node}
 use Rattle.fr_store.specs.declared.table.Table.{Table}
-use Rattle.fr_store.specs.Nodes.{Edge, Stored, is_number, node_in, placed, signal_at}
+use Rattle.fr_store.specs.Nodes.{Edge, Stored, is_number, node_in, placed, reads, signal_at}
 use Rattle.fr_store.specs.Kept.{AreEdges, AreListed, IsStore, IsTable, SameEdges, SameNumbers, SameTable, Widened, Wires, edge_of, first_at, inputs_at, inputs_in, key_at, next_number, node_under, nodes_of, owner_at, room_at, run_at, stored_in}
+use Rattle.fr_store.proofs.Dependents.{place_read}
 use Rattle.fr_store.proofs.Lists.{by_bound, by_number}
-use Rattle.fr_store.proofs.Tables.{key_within, node_by_key, no_items}
+use Rattle.fr_store.proofs.Tables.{node_by_key, some_of}
 use Rattle.fr_store.proofs.Widening.{listed_anew, listed_wider}
 
 same_map : {A B : Type 0} (f g : A → B) (xs : List A) → ((x : A) → g x ≡ f x) → map g xs ≡ map f xs
@@ -326,3 +327,18 @@ store_again limit t u e f s same edges table kept = record {
           ∙ a.listed l i place (subst (λ (rs : List Run). i < length rs) edges.runs lt) (subst (λ (rs : List Run). place < room_at rs i) edges.runs small);
       };
   }
+
+-- what these inputs name has a list
+pub signals_within : (limit : ℕ) (t : Table) (e : Edges) → IsStore limit t e → (inputs : List Held)
+    → ((i : ℕ) → reads i inputs ≡ true → IsSome (node_in (nodes_of t) i)) → (l p : ℕ) → signal_at inputs p ≡ Some l → l < length e.runs.items
+signals_within limit t e s inputs live l p at =
+    let read = place_read l inputs p (ap (λ (o : Option ℕ). is_number o l) at ∙ eq_self l) in
+    let n = some_of (node_in (nodes_of t) l) (live l read) in
+    subst (λ (k : ℕ). l < k) (sym s.runs) (number_within t l n.0 n.1)
+
+pub signals_listed : (limit : ℕ) (t : Table) (e : Edges) → IsStore limit t e → (inputs : List Held)
+    → ((i : ℕ) → reads i inputs ≡ true → IsSome (node_in (nodes_of t) i)) → (l p : ℕ) → signal_at inputs p ≡ Some l → l < length e.links.lists
+signals_listed limit t e s inputs live l p at =
+    let a = signals_within limit t e s inputs live l p at in
+    let b = s.kept_edges.lists in
+    omega arith
