@@ -1,4 +1,5 @@
 pub mod Dependents
+pub mod Heights
 pub mod Lists
 pub mod Stores
 pub mod Tables

@@ -9,7 +9,7 @@ use Rattle.fr_store.specs.declared.edges.Edges.{Edges}
 use Rattle.fr_store.specs.declared.edges.Run.{Run}
 use Rattle.fr_store.specs.declared.node.Node.{Node}
 use Rattle.fr_store.specs.declared.table.Table.{Table}
-use Rattle.fr_store.specs.Nodes.{Edge, Stored, is_number, node_in, placed, reads, signal_at}
+use Rattle.fr_store.specs.Nodes.{Edge, Makes, Stored, is_number, node_in, placed, reads, signal_at}
 use Rattle.fr_store.specs.Kept.{AreEdges, AreListed, IsStore, IsTable, SameEdges, SameNumbers, SameTable, Widened, Wires, edge_of, first_at, inputs_at, inputs_in, key_at, next_number, node_under, nodes_of, owner_at, room_at, run_at, stored_in}
 use Rattle.fr_store.proofs.Dependents.{place_read}
 use Rattle.fr_store.proofs.Lists.{by_bound, by_number}
@@ -342,3 +342,22 @@ signals_listed limit t e s inputs live l p at =
     let a = signals_within limit t e s inputs live l p at in
     let b = s.kept_edges.lists in
     omega arith
+
+-- the node that was made
+pub made_is : (limit : ℕ) (t mid u : Table) (e wide f : Edges) (n : Node) (places : ℕ) (old : Stored) → IsStore limit t e → IsMade limit t mid u e wide f n places
+    → stored_in limit t e ≡ old → Makes old (stored_in limit u f) (next_number mid) n
+made_is limit t mid u e wide f n places old s m is = subst (λ (v : Stored). Makes v (stored_in limit u f) (next_number mid) n) is (record {
+    limit = refl;
+    below = made_below limit t mid u e wide f n places s m;
+    free = ap (λ (nodes : List (Option Node)). node_in nodes (next_number mid)) (sym (same_nodes t mid m.same)) ∙ next_none mid m.sound;
+    near =
+      let a = next_near mid m.sound in
+      let b : length (nodes_of t) ≡ length t.keys.items = length-map t.keys.items (node_under t.nodes) in
+      let d : length mid.keys.items ≡ length t.keys.items = ap length m.same.numbers.keys in
+      omega arith;
+    nodes = m.nodes ∙ ap (λ (nodes : List (Option Node)). placed nodes (next_number mid) n) (same_nodes t mid m.same);
+  })
+
+-- how many nodes contracts see
+pub count_seen : (limit : ℕ) (t : Table) (e : Edges) (old : Stored) → IsStore limit t e → stored_in limit t e ≡ old → t.count ≡ count_by is_some old.nodes
+count_seen limit t e old s is = s.kept_table.counted ∙ ap (λ (v : Stored). count_by is_some v.nodes) is
