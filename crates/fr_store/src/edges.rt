@@ -1,4 +1,4 @@
-ghost use Rattle.std.specs.Prelude.{◌≡◌, ℕ, ◌+◌, ◌^◌, ◌<◌, ◌≤◌, [], false, Some, OnOk, OnErr, IsOk, length};
+ghost use Rattle.std.specs.Prelude.{◌≡◌, ℕ, ◌+◌, ◌^◌, ◌<◌, ◌≤◌, [], false, None, OnOk, OnErr, IsOk, length};
 ghost use Rattle.fr_links.specs.Lists.{has_item, list_at};
 ghost use Rattle.fr_store.specs.Nodes.{signal_at};
 ghost use Rattle.fr_store.specs.Kept.{AreEdges, SameEdges, Widened, Wires, first_at, room_at};
@@ -108,5 +108,18 @@ impl Edges {
             run.room as usize,
             inputs,
         );
+    }
+
+    /// Makes the places of a number name nothing.
+    pub(crate) fn release(&mut self, number: usize)
+        requires sound { AreEdges self.old }
+        requires there { number < length self.old.runs.items }
+        ensures sound { AreEdges self.new }
+        ensures runs { self.new.runs ≡ self.old.runs }
+        ensures owners { self.new.owners ≡ self.old.owners }
+        ensures wired { Wires self.old.links.lists self.new.links.lists (first_at self.old.runs.items number) (room_at self.old.runs.items number) (λ _. None) }
+    {
+        let run = self.run(number);
+        unlink(&mut self.links, run.first as usize, run.room as usize);
     }
 }

@@ -162,7 +162,7 @@ impl Store {
         requires { IsSome (node_at self.old id.0) }
         ensures { (n : Node) → node_at self.old id.0 ≡ Some n → Renames self.old self.new id.0 (cleared n) }
     {
-        self.edges.wire(id.0 as usize, &Inputs::none(self.alloc));
+        self.edges.release(id.0 as usize);
         self.table.change(id, Change::Cleared(self.alloc));
     }
 
