@@ -1,17 +1,17 @@
 -- What the lists of edges say of the nodes that read a node.
-use Rattle.std.proofs.Common.{◌≡◌, ◌≢◌, ℕ, zero, suc, ◌+◌, ◌-◌, ◌<◌, ◌≤◌, List, [], ◌∷◌, length, map, ◌⊎◌, inl, inr, Option, Some, None, IsSome, is_some, Bool, true, false, nat_eq, ◌||◌, ◌&&◌, slice_get, refl, sym, ap, ◌∙◌, subst, arith}
+use Rattle.std.proofs.Common.{◌≡◌, ℕ, zero, suc, ◌+◌, ◌-◌, ◌<◌, ◌≤◌, List, [], ◌∷◌, length, map, inl, inr, Option, Some, None, IsSome, Bool, true, false, nat_eq, ◌||◌, ◌&&◌, slice_get, refl, sym, ap, ◌∙◌, subst, arith}
 use Rattle.std.specs.Option.{option_map}
 use Rattle.std.proofs.lemmas.List.{get_or-map, get_or_past, length-map}
 use Rattle.fr_links.specs.Lists.{has_item, list_at}
-use Rattle.fr_links.proofs.Has.{by_truth, eq_is, eq_self, or_case, or_none, true_false}
+use Rattle.fr_links.proofs.Has.{eq_is, eq_self, or_case, true_false}
 use Rattle.fr_value.specs.declared.now.Held.{Held}
 use Rattle.fr_store.specs.declared.edges.Edges.{Edges}
 use Rattle.fr_store.specs.declared.edges.Run.{Run}
 use Rattle.fr_store.specs.declared.node.Node.{Node}
 use Rattle.fr_store.specs.declared.table.Table.{Table}
 use Rattle.fr_store.specs.Nodes.{AreDependents, Edge, IsEdge, StandsAt, dependents_at, edge_number, has_edge, has_reader, is_number, named, node_at, node_in, reads, signal_at}
-use Rattle.fr_store.specs.Kept.{AreEdges, AreListed, IsPlace, IsStore, edge_of, first_at, inputs_at, inputs_in, nodes_of, owner_at, room_at, stored_in}
-use Rattle.fr_store.proofs.Lists.{by_bound, by_number, same_tests}
+use Rattle.fr_store.specs.Kept.{IsStore, edge_of, first_at, inputs_at, inputs_in, nodes_of, owner_at, room_at, stored_in}
+use Rattle.fr_store.proofs.Lists.{by_bound, same_tests}
 
 and_both : (a b : Bool) → (a && b) ≡ true → (a ≡ true) × (b ≡ true)
 and_both true b h = (refl, h)

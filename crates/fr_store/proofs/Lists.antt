@@ -1,12 +1,12 @@
 -- In which lists an item stands after one was put in or taken out.
-use Rattle.std.proofs.Common.{◌≡◌, ◌≢◌, ℕ, ◌<◌, ◌≤◌, List, [], ◌∷◌, ◌++◌, length, map, ◌⊎◌, inl, inr, Option, Some, None, IsSome, Bool, true, false, cond, is_some, nat_lt, refl, sym, ap, ◌∙◌, subst, arith, get_or-set_same, get_or-set_other, length-set}
+use Rattle.std.proofs.Common.{◌≡◌, ◌≢◌, ℕ, ◌<◌, ◌≤◌, List, [], ◌∷◌, ◌++◌, length, ◌⊎◌, inl, inr, Option, Some, None, IsSome, Bool, true, false, cond, is_some, nat_lt, refl, sym, ap, ◌∙◌, subst, arith, get_or-set_same, get_or-set_other}
 use Rattle.std.proofs.lemmas.List.{get_or-map, get_or_past, length-map}
 use Rattle.std.proofs.lemmas.List.Quantifiers.{position-Some}
 use Rattle.std.proofs.lemmas.List.Sums.{fails_before_first}
 use Rattle.std.specs.List.{position_or_len}
 use Rattle.fr_links.specs.Lists.{has_item, list_at, list_of, others, with_last, without}
-use Rattle.fr_links.proofs.Has.{by_truth, eq_self, eq_is, has_append_cases, has_append_left, has_append_right, here, or_case, true_false}
-use Rattle.fr_links.proofs.Others.{others_absent, others_has, others_keeps}
+use Rattle.fr_links.proofs.Has.{by_truth, eq_is, has_append_cases, has_append_left, has_append_right, here, or_case, true_false}
+use Rattle.fr_links.proofs.Others.{others_has, others_keeps}
 
 pub by_bound : (i n : ℕ) → (i < n) ⊎ (n ≤ i)
 by_bound i n = grind arith

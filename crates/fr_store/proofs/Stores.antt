@@ -2,15 +2,14 @@
 use Rattle.std.proofs.Common.{◌≡◌, ◌≢◌, ℕ, zero, suc, ◌+◌, ◌-◌, ◌<◌, ◌≤◌, List, [], ◌∷◌, ◌++◌, length, map, replicate, ◌⊎◌, inl, inr, Option, Some, None, IsSome, is_some, count_by, Bool, true, false, nat_eq, ◌||◌, get_or, slice_set, slice_index_or, refl, sym, ap, ◌∙◌, subst, arith, get_or-set_same, get_or-set_other, length-append, length-set}
 use Rattle.std.proofs.lemmas.List.{get_or-append_right, get_or-replicate, get_or_append_left, get_or_past, length-map, length-replicate}
 use Rattle.fr_links.specs.Lists.{Linked, has_item, list_at}
-use Rattle.fr_links.proofs.Has.{eq_self, true_false}
+use Rattle.fr_links.proofs.Has.{eq_self}
 use Rattle.fr_value.specs.declared.now.Held.{Held}
-use Rattle.slab.specs.Slab.{Slab, get}
 use Rattle.fr_store.specs.declared.edges.Edges.{Edges}
 use Rattle.fr_store.specs.declared.edges.Run.{Run}
 use Rattle.fr_store.specs.declared.node.Node.{Node}
 use Rattle.fr_store.specs.declared.table.Table.{Table}
 use Rattle.fr_store.specs.Nodes.{Edge, Makes, Stored, is_number, node_in, placed, reads, signal_at}
-use Rattle.fr_store.specs.Kept.{AreEdges, AreListed, IsStore, IsTable, SameEdges, SameNumbers, SameTable, Widened, Wires, edge_of, first_at, inputs_at, inputs_in, key_at, next_number, node_under, nodes_of, owner_at, room_at, run_at, stored_in}
+use Rattle.fr_store.specs.Kept.{AreEdges, AreListed, IsStore, IsTable, SameEdges, SameNumbers, SameTable, Widened, Wires, edge_of, first_at, inputs_at, inputs_in, key_at, next_number, node_under, nodes_of, owner_at, room_at, stored_in}
 use Rattle.fr_store.proofs.Dependents.{place_read}
 use Rattle.fr_store.proofs.Lists.{by_bound, by_number}
 use Rattle.fr_store.proofs.Tables.{node_by_key, some_of}
@@ -53,16 +52,16 @@ number_within t i n e = subst (λ (m : ℕ). i < m) (length-map t.keys.items (no
 pub store_same : (limit : ℕ) (t : Table) (e : Edges) (u : Table) → IsStore limit t e → IsTable u → length u.keys.items ≡ length t.keys.items
     → ((i : ℕ) → inputs_at u i ≡ inputs_at t i) → IsStore limit u e
 store_same limit t e u s k len same = record {
-    small = s.small;
-    few = subst (λ (n : ℕ). n ≤ limit) (sym len) s.few;
-    kept_table = k;
-    kept_edges = s.kept_edges;
-    runs = s.runs ∙ sym len;
-    listed = record {
-      enough = λ i. subst (λ (hs : List Held). length hs ≤ room_at e.runs.items i) (sym (same i)) (s.listed.enough i);
-      listed = λ l i place lt small. s.listed.listed l i place lt small ∙ ap (λ (hs : List Held). is_number (signal_at hs place) l) (sym (same i));
-    };
-  }
+  small = s.small;
+  few = subst (λ (n : ℕ). n ≤ limit) (sym len) s.few;
+  kept_table = k;
+  kept_edges = s.kept_edges;
+  runs = s.runs ∙ sym len;
+  listed = record {
+    enough = λ i. subst (λ (hs : List Held). length hs ≤ room_at e.runs.items i) (sym (same i)) (s.listed.enough i);
+    listed = λ l i place lt small. s.listed.listed l i place lt small ∙ ap (λ (hs : List Held). is_number (signal_at hs place) l) (sym (same i));
+  };
+}
 
 -- a node was changed, and not its inputs
 pub store_changed : (limit : ℕ) (t : Table) (e : Edges) (u : Table) (i : ℕ) (n m : Node) → IsStore limit t e → IsTable u → SameNumbers t u
@@ -96,15 +95,15 @@ pub store_rewired : (limit : ℕ) (t : Table) (e : Edges) (u : Table) (f : Edges
     → length m.inputs ≤ room_at e.runs.items i → Wires e.links.lists f.links.lists (first_at e.runs.items i) (room_at e.runs.items i) (signal_at m.inputs)
     → IsStore limit u f
 store_rewired limit t e u f i n m s k numbers at set edges runs wide w = record {
-    small = s.small;
-    few = subst (λ (ks : List (Option ℕ)). length ks ≤ limit) (sym numbers.keys) s.few;
-    kept_table = k;
-    kept_edges = edges;
-    runs = ap length runs ∙ s.runs ∙ sym (ap length numbers.keys);
-    listed = listed_anew e f i (inputs_at t) (inputs_at u) s.kept_edges s.listed runs there
+  small = s.small;
+  few = subst (λ (ks : List (Option ℕ)). length ks ≤ limit) (sym numbers.keys) s.few;
+  kept_table = k;
+  kept_edges = edges;
+  runs = ap length runs ∙ s.runs ∙ sym (ap length numbers.keys);
+  listed = listed_anew e f i (inputs_at t) (inputs_at u) s.kept_edges s.listed runs there
       (subst (λ (hs : List Held). length hs ≤ room_at e.runs.items i) (sym now) wide) others
       (subst (λ (hs : List Held). Wires e.links.lists f.links.lists (first_at e.runs.items i) (room_at e.runs.items i) (signal_at hs)) (sym now) w);
-  }
+}
   where
     there : i < length e.runs.items
     there = subst (λ (x : ℕ). i < x) (sym s.runs) (number_within t i n at)
@@ -145,9 +144,9 @@ next_is t k = elim (by_bound 0 (length t.free.items)) [
 
 pub listed_table : (e : Edges) (t u : Table) → AreListed e (inputs_at t) → SameTable t u → AreListed e (inputs_at u)
 listed_table e t u a same = record {
-    enough = λ i. subst (λ (hs : List Held). length hs ≤ room_at e.runs.items i) (sym (same_inputs t u same i)) (a.enough i);
-    listed = λ l i place lt small. a.listed l i place lt small ∙ ap (λ (hs : List Held). is_number (signal_at hs place) l) (sym (same_inputs t u same i));
-  }
+  enough = λ i. subst (λ (hs : List Held). length hs ≤ room_at e.runs.items i) (sym (same_inputs t u same i)) (a.enough i);
+  listed = λ l i place lt small. a.listed l i place lt small ∙ ap (λ (hs : List Held). is_number (signal_at hs place) l) (sym (same_inputs t u same i));
+}
 
 -- nothing is at the next number
 pub next_none : (t : Table) → IsTable t → node_in (nodes_of t) (next_number t) ≡ None
@@ -237,18 +236,18 @@ made_below limit t mid u e wide f n places s m =
 
 pub store_made : (limit : ℕ) (t mid u : Table) (e wide f : Edges) (n : Node) (places : ℕ) → IsStore limit t e → IsMade limit t mid u e wide f n places → IsStore limit u f
 store_made limit t mid u e wide f n places s m = record {
-    small = s.small;
-    few = let a = long in let b = made_below limit t mid u e wide f n places s m in let d = was_long in let g = s.few in omega arith;
-    kept_table = m.table;
-    kept_edges = m.edges;
-    runs = ap length m.runs ∙ run_count;
-    listed = listed_anew wide f (next_number mid) (inputs_at mid) (inputs_at u) m.wide_edges
+  small = s.small;
+  few = let a = long in let b = made_below limit t mid u e wide f n places s m in let d = was_long in let g = s.few in omega arith;
+  kept_table = m.table;
+  kept_edges = m.edges;
+  runs = ap length m.runs ∙ run_count;
+  listed = listed_anew wide f (next_number mid) (inputs_at mid) (inputs_at u) m.wide_edges
       (listed_wider e wide (next_number mid) places (inputs_at mid) (listed_table e t mid s.listed m.same) (next_inputs mid m.sound) m.widened)
       m.runs m.widened.there
       (subst (λ (hs : List Held). length hs ≤ room_at wide.runs.items (next_number mid)) (sym now) (let a = m.few in let b = m.widened.wide in omega arith))
       others
       (subst (λ (hs : List Held). Wires wide.links.lists f.links.lists (first_at wide.runs.items (next_number mid)) (room_at wide.runs.items (next_number mid)) (signal_at hs)) (sym now) m.wired);
-  }
+}
   where
     was_long : length mid.keys.items ≡ length t.keys.items
     was_long = ap length m.same.numbers.keys
@@ -300,33 +299,33 @@ pub view_again : (limit : ℕ) (t u : Table) (e f : Edges) → IsStore limit t e
 view_again limit t u e f s same edges =
     ap (λ (nodes : List (Option Node)). record { limit = limit; nodes = nodes; dependents = map (map (edge_of f.runs.items f.owners.items)) f.links.lists }) (same_nodes t u same)
     ∙ ap (λ (ds : List (List Edge)). record { limit = limit; nodes = nodes_of t; dependents = ds })
-      (ap (λ (ls : Linked). map (map (edge_of f.runs.items f.owners.items)) ls.lists) edges.links
-      ∙ ap (λ (rs : List Run). map (map (edge_of rs f.owners.items)) e.links.lists) edges.runs
-      ∙ dependents_on (edge_of e.runs.items e.owners.items) (edge_of e.runs.items f.owners.items) e.links.lists (λ l x h.
-        let p = s.kept_edges.inside l x h in
-        let r = (s.kept_edges.runs p.number p.there).1 in
-        let at = p.same in
-        let lt = p.within in
-        let own : owner_at f.owners.items x ≡ owner_at e.owners.items x = edges.owners x (omega arith) in
-        ap (λ (o : ℕ). record { number = x; node = o; place = x - first_at e.runs.items o }) own))
+    (ap (λ (ls : Linked). map (map (edge_of f.runs.items f.owners.items)) ls.lists) edges.links
+    ∙ ap (λ (rs : List Run). map (map (edge_of rs f.owners.items)) e.links.lists) edges.runs
+    ∙ dependents_on (edge_of e.runs.items e.owners.items) (edge_of e.runs.items f.owners.items) e.links.lists (λ l x h.
+    let p = s.kept_edges.inside l x h in
+    let r = (s.kept_edges.runs p.number p.there).1 in
+    let at = p.same in
+    let lt = p.within in
+    let own : owner_at f.owners.items x ≡ owner_at e.owners.items x = edges.owners x (omega arith) in
+    ap (λ (o : ℕ). record { number = x; node = o; place = x - first_at e.runs.items o }) own))
 
 pub store_again : (limit : ℕ) (t u : Table) (e f : Edges) → IsStore limit t e → SameTable t u → SameEdges e f → IsTable u → AreEdges f → IsStore limit u f
 store_again limit t u e f s same edges table kept = record {
-    small = s.small;
-    few = subst (λ (ks : List (Option ℕ)). length ks ≤ limit) (sym same.numbers.keys) s.few;
-    kept_table = table;
-    kept_edges = kept;
-    runs = ap length edges.runs ∙ s.runs ∙ sym (ap length same.numbers.keys);
-    listed =
+  small = s.small;
+  few = subst (λ (ks : List (Option ℕ)). length ks ≤ limit) (sym same.numbers.keys) s.few;
+  kept_table = table;
+  kept_edges = kept;
+  runs = ap length edges.runs ∙ s.runs ∙ sym (ap length same.numbers.keys);
+  listed =
       let a = listed_table e t u s.listed same in
       record {
         enough = λ i. subst (λ (rs : List Run). length (inputs_at u i) ≤ room_at rs i) (sym edges.runs) (a.enough i);
         listed = λ l i place lt small.
-          ap (λ (rs : List Run). has_item (list_at f.links.lists l) (first_at rs i + place)) edges.runs
-          ∙ ap (λ (k : Linked). has_item (list_at k.lists l) (first_at e.runs.items i + place)) edges.links
-          ∙ a.listed l i place (subst (λ (rs : List Run). i < length rs) edges.runs lt) (subst (λ (rs : List Run). place < room_at rs i) edges.runs small);
+            ap (λ (rs : List Run). has_item (list_at f.links.lists l) (first_at rs i + place)) edges.runs
+            ∙ ap (λ (k : Linked). has_item (list_at k.lists l) (first_at e.runs.items i + place)) edges.links
+            ∙ a.listed l i place (subst (λ (rs : List Run). i < length rs) edges.runs lt) (subst (λ (rs : List Run). place < room_at rs i) edges.runs small);
       };
-  }
+}
 
 -- what these inputs name has a list
 pub signals_within : (limit : ℕ) (t : Table) (e : Edges) → IsStore limit t e → (inputs : List Held)
@@ -347,17 +346,28 @@ signals_listed limit t e s inputs live l p at =
 pub made_is : (limit : ℕ) (t mid u : Table) (e wide f : Edges) (n : Node) (places : ℕ) (old : Stored) → IsStore limit t e → IsMade limit t mid u e wide f n places
     → stored_in limit t e ≡ old → Makes old (stored_in limit u f) (next_number mid) n
 made_is limit t mid u e wide f n places old s m is = subst (λ (v : Stored). Makes v (stored_in limit u f) (next_number mid) n) is (record {
-    limit = refl;
-    below = made_below limit t mid u e wide f n places s m;
-    free = ap (λ (nodes : List (Option Node)). node_in nodes (next_number mid)) (sym (same_nodes t mid m.same)) ∙ next_none mid m.sound;
-    near =
+  limit = refl;
+  below = made_below limit t mid u e wide f n places s m;
+  free = ap (λ (nodes : List (Option Node)). node_in nodes (next_number mid)) (sym (same_nodes t mid m.same)) ∙ next_none mid m.sound;
+  near =
       let a = next_near mid m.sound in
       let b : length (nodes_of t) ≡ length t.keys.items = length-map t.keys.items (node_under t.nodes) in
       let d : length mid.keys.items ≡ length t.keys.items = ap length m.same.numbers.keys in
       omega arith;
-    nodes = m.nodes ∙ ap (λ (nodes : List (Option Node)). placed nodes (next_number mid) n) (same_nodes t mid m.same);
-  })
+  nodes = m.nodes ∙ ap (λ (nodes : List (Option Node)). placed nodes (next_number mid) n) (same_nodes t mid m.same);
+})
 
 -- how many nodes contracts see
 pub count_seen : (limit : ℕ) (t : Table) (e : Edges) (old : Stored) → IsStore limit t e → stored_in limit t e ≡ old → t.count ≡ count_by is_some old.nodes
 count_seen limit t e old s is = s.kept_table.counted ∙ ap (λ (v : Stored). count_by is_some v.nodes) is
+
+-- what these inputs name has a list where a number got more edges
+pub signals_wide : (limit : ℕ) (t : Table) (e wide : Edges) (number places : ℕ) → IsStore limit t e → AreEdges wide → Widened e wide number places → (inputs : List Held)
+    → ((i : ℕ) → reads i inputs ≡ true → IsSome (node_in (nodes_of t) i)) → (l p : ℕ) → signal_at inputs p ≡ Some l → l < length wide.links.lists
+signals_wide limit t e wide number places s edges w inputs live l p at =
+    let a = signals_within limit t e s inputs live l p at in
+    let b = edges.lists in
+    elim w.len [
+      | inl same ↦ let x = same.1 in omega arith
+      | inr more ↦ let x = more.1 in omega arith
+    ]

@@ -1,5 +1,5 @@
 -- A table of nodes through its changes.
-use Rattle.std.proofs.Common.{◌≡◌, ◌≢◌, ℕ, zero, suc, ◌+◌, ◌-◌, ◌<◌, ◌≤◌, List, [], ◌∷◌, ◌++◌, length, map, replicate, ◌⊎◌, inl, inr, Option, Some, None, IsSome, Bool, true, false, nat_eq, cond, is_some, count_by, vec_capacity, get_or, slice_set, slice_index_or, refl, sym, ap, ◌∙◌, subst, arith, get_or-set_same, get_or-set_other, length-set, length-append}
+use Rattle.std.proofs.Common.{◌≡◌, ◌≢◌, ℕ, zero, suc, ◌+◌, ◌-◌, ◌<◌, ◌≤◌, List, [], ◌∷◌, ◌++◌, length, map, replicate, inl, inr, Option, Some, None, IsSome, Bool, true, false, nat_eq, cond, is_some, count_by, vec_capacity, get_or, slice_set, refl, sym, ap, ◌∙◌, subst, arith, get_or-set_same, get_or-set_other, length-set, length-append}
 use Rattle.std.proofs.lemmas.List.{append-nil, get_or-map, get_or_past, length-map, same_lists}
 use Rattle.std.proofs.lemmas.List.Sums.{get_or-le-sum_by, sum_by-set, sum_by_push}
 use Rattle.slab.specs.Slab.{Slab, get, with_value, Updates}

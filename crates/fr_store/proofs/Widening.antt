@@ -1,5 +1,5 @@
 -- Edges through their changes.
-use Rattle.std.proofs.Common.{◌≡◌, ◌≢◌, ℕ, zero, suc, ◌+◌, ◌-◌, ◌<◌, ◌≤◌, List, [], ◌∷◌, ◌++◌, length, replicate, max, ◌⊎◌, inl, inr, Option, Some, None, Bool, true, false, refl, sym, ap, ◌∙◌, subst, arith, get_or-set_same, get_or-set_other, length-append, length-set, slice_set}
+use Rattle.std.proofs.Common.{◌≡◌, ◌≢◌, ℕ, zero, suc, ◌+◌, ◌-◌, ◌<◌, ◌≤◌, List, [], ◌∷◌, ◌++◌, length, replicate, max, ◌⊎◌, inl, inr, Option, Bool, true, false, refl, sym, ap, ◌∙◌, subst, arith, get_or-set_same, get_or-set_other, length-append, length-set, slice_set}
 use Rattle.std.proofs.lemmas.List.{get_or-append_right, get_or-replicate, get_or_append_left, get_or_past, length-replicate}
 use Rattle.fr_links.specs.Lists.{has_item, list_at, with_empty}
 use Rattle.fr_links.proofs.Has.{true_false}
@@ -7,7 +7,7 @@ use Rattle.fr_value.specs.declared.now.Held.{Held}
 use Rattle.fr_store.specs.declared.edges.Edges.{Edges}
 use Rattle.fr_store.specs.declared.edges.Run.{Run}
 use Rattle.fr_store.specs.Nodes.{is_number, signal_at}
-use Rattle.fr_store.specs.Kept.{AreEdges, AreListed, IsPlace, SameEdges, Widened, Wires, first_at, owner_at, room_at, run_at}
+use Rattle.fr_store.specs.Kept.{AreEdges, AreListed, IsPlace, Widened, Wires, first_at, owner_at, room_at, run_at}
 use Rattle.fr_store.proofs.Lists.{by_bound, by_number}
 
 -- new lists at the end are empty

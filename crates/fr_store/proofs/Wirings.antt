@@ -1,7 +1,7 @@
 -- The edges of a run, taken out of lists and put into lists one after the other.
-use Rattle.std.proofs.Common.{◌≡◌, ◌≢◌, ℕ, zero, suc, ◌+◌, ◌-◌, ◌<◌, ◌≤◌, List, [], ◌∷◌, length, ◌⊎◌, inl, inr, Option, Some, None, Bool, true, false, nat_eq, refl, sym, ap, ◌∙◌, subst, arith}
+use Rattle.std.proofs.Common.{◌≡◌, ◌≢◌, ℕ, ◌+◌, ◌<◌, ◌≤◌, List, length, ◌⊎◌, inl, inr, Option, Some, None, false, nat_eq, refl, sym, ap, ◌∙◌, arith}
 use Rattle.fr_links.specs.Lists.{has_item, list_at, with_last, without}
-use Rattle.fr_links.proofs.Has.{by_truth, eq_apart, eq_self, true_false}
+use Rattle.fr_links.proofs.Has.{eq_apart, eq_self}
 use Rattle.fr_store.specs.Nodes.{is_number}
 use Rattle.fr_store.specs.Kept.{Wires}
 use Rattle.fr_store.proofs.Lists.{by_bound, by_number, last_elsewhere, last_here, last_other, without_here, without_other}

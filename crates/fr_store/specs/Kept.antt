@@ -1,5 +1,5 @@
 -- How a store keeps its nodes and edges.
-use Rattle.std.specs.Prelude.{◌≡◌, ◌≢◌, ℕ, ◌+◌, ◌-◌, ◌^◌, ◌<◌, ◌≤◌, ◌⊎◌, List, [], ◌∷◌, length, map, slice_get, slice_index_or, slice_set, Option, Some, None, IsSome, true, false, is_some, count_by, vec_capacity}
+use Rattle.std.specs.Prelude.{◌≡◌, ◌≢◌, ℕ, ◌+◌, ◌-◌, ◌^◌, ◌<◌, ◌≤◌, ◌⊎◌, List, [], length, map, slice_index_or, Option, Some, None, IsSome, true, false, is_some, count_by, vec_capacity}
 use Rattle.fr_links.specs.Lists.{has_item, list_at}
 use Rattle.fr_links.specs.Rings.{AllDifferent}
 use Rattle.fr_value.specs.declared.now.Held.{Held}

@@ -1,11 +1,9 @@
 -- What the inputs of a node are, by how they are kept and how they are read.
 use Rattle.std.specs.Prelude.{ℕ, List, [], ◌∷◌, map}
 use Rattle.fr_value.specs.declared.now.Held.{Held}
-use Rattle.fr_value.specs.declared.now.Held.TheVariants as Held
 use Rattle.fr_store.specs.declared.inputs.Row.{Row}
 use Rattle.fr_store.specs.declared.inputs.Row.TheVariants.{Signals, Steady, Mixed}
 use Rattle.fr_store.specs.declared.inputs.Input.{Input}
-use Rattle.fr_store.specs.declared.inputs.Input.TheVariants as Input
 
 -- The signals of nodes by their numbers.
 abbrev pub signals : List ℕ → List Held

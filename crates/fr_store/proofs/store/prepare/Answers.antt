@@ -1,4 +1,4 @@
-use Rattle.std.proofs.Common.{◌≡◌, ◌+◌, ◌≤◌, ◌<◌, ℕ, false, length, sym, ap, ◌∙◌, subst, arith}
+use Rattle.std.proofs.Common.{◌≡◌, ◌+◌, ◌<◌, ℕ, false, length, sym, ap, ◌∙◌, subst, arith}
 use Rattle.fr_links.specs.Lists.{has_item, list_at}
 use Rattle.fr_store.specs.Kept.{first_at, room_at}
 use Rattle.fr_store.proofs.Stores.{listed_table, next_below, next_idle, next_near}
@@ -27,4 +27,4 @@ widen-requires-clause-idle c =
     subst (λ (k : ℕ). (l p : ℕ) → p < room_at c.args.edges.now.runs.items k → has_item (list_at c.args.edges.now.links.lists l) (first_at c.args.edges.now.runs.items k + p) ≡ false)
     (sym c.next.ensures)
     (next_idle c.reserve.new.self c.args.edges.now c.reserve.ensures.sound (c.requires.runs ∙ sym len)
-      (listed_table c.args.edges.now c.args.table.now c.reserve.new.self c.requires.listed c.reserve.ensures.same))
+    (listed_table c.args.edges.now c.args.table.now c.reserve.new.self c.requires.listed c.reserve.ensures.same))

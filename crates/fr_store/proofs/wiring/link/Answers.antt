@@ -1,4 +1,4 @@
-use Rattle.std.proofs.Common.{◌≡◌, ◌∙◌, ℕ, ◌<◌, inr, arith, sym, subst}
+use Rattle.std.proofs.Common.{◌∙◌, ℕ, ◌<◌, inr, arith, sym, subst}
 use Rattle.fr_store.specs.Nodes.{signal_at}
 use Rattle.fr_store.proofs.Wirings.{wires_more, wires_wide}
 use Rattle.fr_store.proofs.Dependents.{no_signal}

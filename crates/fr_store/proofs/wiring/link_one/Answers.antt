@@ -1,4 +1,4 @@
-use Rattle.std.proofs.Common.{ap, refl}
+use Rattle.std.proofs.Common.{ap}
 use Rattle.fr_store.specs.Nodes.{number_of}
 use Rattle.fr_store.proofs.Lists.{in_none}
 use Rattle.fr_store.proofs.wiring.link_one.Goals as goal

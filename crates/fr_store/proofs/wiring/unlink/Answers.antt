@@ -1,5 +1,5 @@
-use Rattle.std.proofs.Common.{◌≡◌, ◌∙◌, None, refl}
-use Rattle.fr_store.proofs.Wirings.{wires_more, wires_none}
+use Rattle.std.proofs.Common.{◌∙◌, None, refl}
+use Rattle.fr_store.proofs.Wirings.{wires_more}
 use Rattle.fr_store.proofs.wiring.unlink.Goals as goal
 
 pub loop-place-preserved : goal.loop-place-preserved

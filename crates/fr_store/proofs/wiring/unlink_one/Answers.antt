@@ -1,4 +1,4 @@
-use Rattle.std.proofs.Common.{None, List, ℕ, sym, ap, subst}
+use Rattle.std.proofs.Common.{None, sym, subst}
 use Rattle.fr_links.specs.Lists.{Linked}
 use Rattle.fr_store.specs.Kept.{Wires}
 use Rattle.fr_store.proofs.Wirings.{wires_without}

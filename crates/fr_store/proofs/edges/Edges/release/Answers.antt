@@ -1,5 +1,5 @@
-use Rattle.std.proofs.Common.{◌≡◌, ℕ, ◌+◌, ◌≤◌, ◌<◌, None, refl, subst, arith}
-use Rattle.fr_store.specs.Kept.{Wires, first_at, room_at}
+use Rattle.std.proofs.Common.{ℕ, None, refl, subst, arith}
+use Rattle.fr_store.specs.Kept.{Wires, room_at}
 use Rattle.fr_store.proofs.Widening.{wired_edges}
 use Rattle.fr_store.proofs.edges.Edges.release.Goals as goal
 
@@ -15,9 +15,9 @@ pub returns-clause-sound : goal.returns-clause-sound
 returns-clause-sound c =
     wired_edges c.args.self.now _ c.args.number (λ _. None) c.requires.sound refl refl c.unlink.ensures.lists c.unlink.ensures.items c.requires.there
     (subst (λ (n : ℕ). Wires c.args.self.now.links.lists c.unlink.new.links.lists n (room_at c.args.self.now.runs.items c.args.number) (λ _. None)) c.run-run.ensures.first
-      (subst (λ (n : ℕ). Wires c.args.self.now.links.lists c.unlink.new.links.lists c.run-run.result.first n (λ _. None)) c.run-run.ensures.room c.unlink.ensures.wired))
+    (subst (λ (n : ℕ). Wires c.args.self.now.links.lists c.unlink.new.links.lists c.run-run.result.first n (λ _. None)) c.run-run.ensures.room c.unlink.ensures.wired))
 
 pub returns-clause-wired : goal.returns-clause-wired
 returns-clause-wired c =
     subst (λ (n : ℕ). Wires c.args.self.now.links.lists c.unlink.new.links.lists n (room_at c.args.self.now.runs.items c.args.number) (λ _. None)) c.run-run.ensures.first
-      (subst (λ (n : ℕ). Wires c.args.self.now.links.lists c.unlink.new.links.lists c.run-run.result.first n (λ _. None)) c.run-run.ensures.room c.unlink.ensures.wired)
+    (subst (λ (n : ℕ). Wires c.args.self.now.links.lists c.unlink.new.links.lists c.run-run.result.first n (λ _. None)) c.run-run.ensures.room c.unlink.ensures.wired)

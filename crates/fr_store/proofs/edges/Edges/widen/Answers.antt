@@ -1,6 +1,5 @@
-use Rattle.std.proofs.Common.{◌≡◌, ℕ, ◌+◌, ◌≤◌, ◌<◌, List, length, inl, inr, refl, sym, ap, ◌∙◌, subst, arith, slice_set, ◌++◌, ◌∷◌, []}
+use Rattle.std.proofs.Common.{◌≡◌, ℕ, ◌<◌, List, length, inl, inr, refl, sym, ap, ◌∙◌, arith, slice_set, ◌++◌, ◌∷◌, []}
 use Rattle.std.specs.Vec.{with_item}
-use Rattle.fr_store.specs.declared.edges.Edges.{Edges}
 use Rattle.fr_store.specs.declared.edges.Run.{Run}
 use Rattle.fr_store.specs.Kept.{owner_at}
 use Rattle.fr_store.proofs.Widening.{Grows, grown_edges, grown_widened, grows}

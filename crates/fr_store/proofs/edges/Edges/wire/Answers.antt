@@ -1,6 +1,6 @@
-use Rattle.std.proofs.Common.{◌≡◌, ℕ, ◌+◌, ◌≤◌, ◌<◌, List, length, Option, None, Bool, false, refl, sym, ap, ◌∙◌, subst, arith}
+use Rattle.std.proofs.Common.{ℕ, ◌<◌, refl, sym, ◌∙◌, subst, arith}
 use Rattle.fr_store.specs.Nodes.{signal_at}
-use Rattle.fr_store.specs.Kept.{Wires, first_at, room_at}
+use Rattle.fr_store.specs.Kept.{Wires, room_at}
 use Rattle.fr_store.proofs.Widening.{wired_edges}
 use Rattle.fr_store.proofs.Wirings.{wires_anew}
 use Rattle.fr_store.proofs.edges.Edges.wire.Goals as goal

@@ -1,4 +1,4 @@
-use Rattle.std.proofs.Common.{◌≡◌, ◌≤◌, IsSome, sym, ap, subst, arith}
+use Rattle.std.proofs.Common.{IsSome, sym, ap, subst, arith}
 use Rattle.fr_store.specs.Nodes.{Stored, cleared, node_at, node_in}
 use Rattle.fr_store.specs.Kept.{nodes_of}
 use Rattle.fr_store.proofs.Stores.{store_rewired}

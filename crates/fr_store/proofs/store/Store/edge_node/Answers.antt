@@ -1,4 +1,4 @@
-use Rattle.std.proofs.Common.{◌≡◌, ◌<◌, ℕ, sym, ap, ◌∙◌, subst}
+use Rattle.std.proofs.Common.{◌<◌, ℕ, sym, ap, ◌∙◌, subst}
 use Rattle.std.proofs.lemmas.List.{get_or_read}
 use Rattle.fr_store.specs.Nodes.{Edge, IsEdge, StandsAt, Stored}
 use Rattle.fr_store.proofs.Dependents.{edge_item, edge_within}

@@ -1,4 +1,4 @@
-use Rattle.std.proofs.Common.{◌≡◌, ℕ, Option, List, sym, ap, ◌∙◌, subst}
+use Rattle.std.proofs.Common.{ap, ◌∙◌, subst}
 use Rattle.fr_store.specs.Nodes.{AreDependents, Stored, dependents_at, edge_number}
 use Rattle.fr_store.proofs.Dependents.{exact_dependents, seen_number}
 use Rattle.fr_store.proofs.store.Store.first_dependent.Goals as goal

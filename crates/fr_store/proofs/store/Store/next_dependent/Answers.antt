@@ -1,4 +1,4 @@
-use Rattle.std.proofs.Common.{◌≡◌, ◌+◌, ℕ, Option, List, sym, ap, ◌∙◌, subst}
+use Rattle.std.proofs.Common.{◌+◌, sym, ap, ◌∙◌, subst}
 use Rattle.fr_links.specs.Lists.{list_at}
 use Rattle.fr_store.specs.Nodes.{IsEdge, StandsAt, Stored, dependents_at, edge_number}
 use Rattle.fr_store.proofs.Dependents.{edge_item, item_there, seen_number}

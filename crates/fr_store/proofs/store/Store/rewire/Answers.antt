@@ -1,7 +1,7 @@
-use Rattle.std.proofs.Common.{◌≡◌, ◌≤◌, ◌<◌, ℕ, [], ◌∷◌, IsSome, length, sym, ap, ◌∙◌, subst, arith, List}
+use Rattle.std.proofs.Common.{◌≡◌, ◌<◌, ℕ, [], ◌∷◌, IsSome, length, sym, ap, ◌∙◌, subst, arith, List}
 use Rattle.fr_value.specs.declared.now.Held.{Held}
-use Rattle.fr_store.specs.Nodes.{Stored, node_at, node_in, reads, rewired, signal_at}
-use Rattle.fr_store.specs.Kept.{Wires, first_at, nodes_of, room_at}
+use Rattle.fr_store.specs.Nodes.{Stored, node_at, node_in, signal_at}
+use Rattle.fr_store.specs.Kept.{nodes_of}
 use Rattle.fr_store.proofs.Stores.{number_within, signals_listed, store_rewired}
 use Rattle.fr_store.proofs.Tables.{some_of}
 use Rattle.fr_store.proofs.store.Store.rewire.Goals as goal

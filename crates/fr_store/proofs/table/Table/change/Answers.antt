@@ -1,4 +1,4 @@
-use Rattle.std.proofs.Common.{◌≡◌, ◌≤◌, refl, sym, ◌∙◌, arith}
+use Rattle.std.proofs.Common.{refl, sym, ◌∙◌, arith}
 use Rattle.fr_store.proofs.Tables.{nodes_written, some_of, table_written, under_key}
 use Rattle.fr_store.proofs.table.Table.change.Goals as goal
 

@@ -1,10 +1,9 @@
-use Rattle.std.proofs.Common.{◌≡◌, ◌≤◌, ◌<◌, ℕ, List, ◌++◌, ◌+◌, length, Option, Some, refl, sym, ap, ◌∙◌, subst, arith}
+use Rattle.std.proofs.Common.{◌≤◌, ◌<◌, ℕ, ◌++◌, ◌+◌, length, Option, Some, refl, sym, ap, ◌∙◌, subst}
 use Rattle.std.specs.Option.{option_to_list}
 use Rattle.std.specs.Vec.{with_item}
-use Rattle.fr_store.specs.declared.table.Table.{Table}
 use Rattle.fr_store.specs.Nodes.{placed}
 use Rattle.fr_store.specs.Kept.{nodes_of}
-use Rattle.fr_store.proofs.Tables.{Added, Reused, added_placed, added_table, free_within, no_items, reused_placed, reused_table}
+use Rattle.fr_store.proofs.Tables.{added_placed, added_table, free_within, no_items, reused_placed, reused_table}
 use Rattle.fr_store.proofs.table.Table.put.Goals as goal
 
 pub index_mut-requires : goal.index_mut-requires

@@ -1,4 +1,4 @@
-use Rattle.std.proofs.Common.{◌≡◌, ◌≤◌, ◌-◌, None, refl, sym, ◌∙◌, arith}
+use Rattle.std.proofs.Common.{◌≤◌, ◌-◌, None, refl, sym, ◌∙◌, arith}
 use Rattle.std.specs.Vec.{with_item}
 use Rattle.fr_store.proofs.Tables.{freed_nodes, freed_table, some_counted}
 use Rattle.fr_store.proofs.table.Table.remove.Goals as goal
