@@ -34,7 +34,7 @@ impl From<AllocError> for MakeStop {
 /// The nodes of the graph. A node has a number below the limit; a number that was given up is used again.
 ///
 /// Contracts see the node of each number and, for each number, the edges: the places among the inputs of nodes that name it.
-/// Every call but `make` takes no memory, and all but `make`, `rewire`, `clear` and `count` a constant time; these go through
+/// Every call but `make` takes no memory, and all but `make`, `rewire` and `clear` a constant time; these three go through
 /// the inputs of the one node.
 #[derive(Drop)]
 pub struct Store {
