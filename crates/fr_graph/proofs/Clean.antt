@@ -85,7 +85,6 @@ late_clean operator.OnceE c xs taken late clean e = absurd (false≢true late)
 
 module _ (g : Graph) (p : Plan) (pr : Program) (plan : IsPlanOf pr p) (sources : List Now) (before : ℕ → Option Cell)
     (settled : SettledOn g everything p.table sources before) (eras : ErasStandOn g everything p) (means : KernelsMean p pr sources) (ended : HasEnded g) where
-
   abbrev t : Kernels
   t = p.table
 
@@ -224,14 +223,14 @@ module _ (g : Graph) (p : Plan) (pr : Program) (plan : IsPlanOf pr p) (sources :
         let r = ih b x (env ++ qs.parts) (vs ++ ps.values) qs.left (child k (length es)) (subst (λ m. Sound t m b) (sym wide) inside.1) (have_append g everything env vs qs.parts ps.values en have) (good_append vs ps.values good parts_good.1) st.1 kp.1 in
         let r' = subst (λ j. Errless (ev (f b) (vs ++ ps.values) (child k j))) (sym (length-map es f)) r in
         opens (core.Let (map f es) (f b)) (Core-F.Let (map f es) (f b)) k (outs-Let (map f es) (f b))
-          (record { first = both_none _ _ (both_none ps.first _ parts_good.0 (under_none (length (map f es)) _ r'.first)) r'.good; good = r'.good })
+        (record { first = both_none _ _ (both_none ps.first _ parts_good.0 (under_none (length (map f es)) _ r'.first)) r'.good; good = r'.good })
     shape_errless (Low-F.If site test a b) ms k s st kp =
         let inside = outer_sound t (length env) (test ∷ a ∷ b ∷ []) s.inside in
         let d = ev (f test) vs (child k 0) in
         let r = agrees_at n below test x env vs ms (child k 0) inside.0 en st.0 kp.0 in
         let h = ih test x env vs ms (child k 0) inside.0 en good st.0 kp.0 in
         opens (core.If (f test) (f a) (f b)) (Core-F.If (f test) (f a) (f b)) k (outs-If (f test) (f a) (f b))
-          (switch_errless a b (walk test env ms).part (walk test env ms).left k d h inside.1.0 inside.1.1.0 r st.1 kp.1)
+        (switch_errless a b (walk test env ms).part (walk test env ms).left k d h inside.1.0 inside.1.1.0 r st.1 kp.1)
     shape_errless (Low-F.Apply id es) ms k s st kp =
         let qs = place_all walk env es ms in
         let ps = parts ev vs k 0 (map f es) in
@@ -243,7 +242,7 @@ module _ (g : Graph) (p : Plan) (pr : Program) (plan : IsPlanOf pr p) (sources :
         let same : option_map f o ≡ body_for (slice_get w.functions id.0) m = sym (bodies_match t.kernels p.functions id.0 m) ∙ ap (λ fs. body_for (slice_get fs id.0) m) (sym plan.functions) in
         let r = call_errless o qs k m ps parts_good.0 parts_good.1 have (all_length walk env es ms) (λ body e. low_sound t (slice_get p.functions id.0) m body (plan.bodies id.0) e) st.1 kp.1 in
         opens (core.Apply id (map f es)) (Core-F.Apply id (map f es)) k (outs-Apply id (map f es))
-          (subst Errless (ap (call_done ev k m ps) same ∙ ap (λ j. call_done ev k j ps (body_for (slice_get w.functions id.0) j)) (sym (length-map es f))) r)
+        (subst Errless (ap (call_done ev k m ps) same ∙ ap (λ j. call_done ev k j ps (body_for (slice_get w.functions id.0) j)) (sym (length-map es f))) r)
     shape_errless (Low-F.Operator o es) ms k s st kp =
         let qs = place_all walk env es ms in
         let inner = behind_cell (of_operator o) k in
@@ -268,12 +267,12 @@ module _ (g : Graph) (p : Plan) (pr : Program) (plan : IsPlanOf pr p) (sources :
         let front : take (handler_parts h) (ps.values ++ others) ≡ ps.values = ap (λ m. take m (ps.values ++ others)) (sym count) ∙ take-append_seam ps.values others in
         let behind : drop (handler_parts h) (ps.values ++ others) ≡ others = ap (λ m. drop m (ps.values ++ others)) (sym count) ∙ drop-append_seam ps.values others in
         let clean = work_clean g everything t sources before closed settled p x n (handles h id.0) (qs.parts ++ slot_parts p env ss) (ps.values ++ others) qs.left cell refl st.2
-                  (have_append g everything qs.parts ps.values (slot_parts p env ss) others have slots) (λ e. kp.1) tt in
+        (have_append g everything qs.parts ps.values (slot_parts p env ss) others have slots) (λ e. kp.1) tt in
         let clean' = subst (λ xs. IsClean (state_now (of_handler h) cell ps.values (kernel_call t n id.0 xs))) behind
-                   (subst (λ xs. IsClean (state_now (of_handler h) cell xs (kernel_call t n id.0 (drop (handler_parts h) (ps.values ++ others))))) front clean) in
+        (subst (λ xs. IsClean (state_now (of_handler h) cell xs (kernel_call t n id.0 (drop (handler_parts h) (ps.values ++ others))))) front clean) in
         let line = handler_clean h cell ps.values (kernel_call t n id.0 others) (handler ev vs (length (map f es)) body)
-                 (λ args e. let m = kernel_means g everything p pr plan sources before closed settled eras means n few (agrees_at n below) x env vs en n id.0 (handler_binds h) ss args kept.Nothing below s.fits e in
-                   (m.value, λ none. under_none (length (map f es)) _ (sym m.first ∙ none))) clean' in
+        (λ args e. let m = kernel_means g everything p pr plan sources before closed settled eras means n few (agrees_at n below) x env vs en n id.0 (handler_binds h) ss args kept.Nothing below s.fits e in
+        (m.value, λ none. under_none (length (map f es)) _ (sym m.first ∙ none))) clean' in
         opens (core.Handler h (map f es) body) (Core-F.Handler h (map f es) body) k (outs-Handler h (map f es) body) (line_errless ps _ parts_good.0 line)
     shape_errless (Low-F.Loop l es id ss) ms k s st kp =
         let qs = place_all walk env es ms in
@@ -286,11 +285,11 @@ module _ (g : Graph) (p : Plan) (pr : Program) (plan : IsPlanOf pr p) (sources :
         let body = kernel_expr t.kernels id.0 in
         let count : length ps.values ≡ 2 = sym (have_length g everything qs.parts ps.values have) ∙ all_length walk env es ms ∙ s.parts in
         let clean = work_clean g everything t sources before closed settled p x n (loops l id.0) (qs.parts ++ slot_parts p env ss) (ps.values ++ others) qs.left None refl st.2
-                  (have_append g everything qs.parts ps.values (slot_parts p env ss) others have slots) (λ e. absurd (false≢true (sym e))) tt in
+        (have_append g everything qs.parts ps.values (slot_parts p env ss) others have slots) (λ e. absurd (false≢true (sym e))) tt in
         let ts = loop_turns l id.0 ps.values others body count
-               (λ args e. let m = kernel_means g everything p pr plan sources before closed settled eras means n few (agrees_at n below) x env vs en n id.0 (loop_binds l) ss args kept.Nothing below s.fits e in (m.value, λ none. sym m.first ∙ none)) clean in
+        (λ args e. let m = kernel_means g everything p pr plan sources before closed settled eras means n few (agrees_at n below) x env vs en n id.0 (loop_binds l) ss args kept.Nothing below s.fits e in (m.value, λ none. sym m.first ∙ none)) clean in
         opens (core.Loop l (map f es) body) (Core-F.Loop l (map f es) body) k (outs-Loop l (map f es) body)
-          (record { first = both_none _ _ (both_none ps.first _ parts_good.0 (under_none (length (map f es)) _ ts.1)) ts.0; good = ts.0 })
+        (record { first = both_none _ _ (both_none ps.first _ parts_good.0 (under_none (length (map f es)) _ ts.1)) ts.0; good = ts.0 })
       where
         loop_turns : (l : Loop) (id : ℕ) (xs others : List Seen) (body : Core) → length xs ≡ 2
             → ((args : List Seen) → length args ≡ loop_binds l → ((kernel_run t n id others args).value ≡ (body_with ev vs body args).value) × ((kernel_run t n id others args).first ≡ None → (body_with ev vs body args).first ≡ None))
@@ -315,7 +314,7 @@ module _ (g : Graph) (p : Plan) (pr : Program) (plan : IsPlanOf pr p) (sources :
         let last = (walk body inside (rest i.left)).part in
         let rule : IsWorked g t (before c) c feeds (i.part ∷ []) = rule_on g everything t sources before closed settled x n (works feeds) (i.part ∷ []) (Some last) i.left tt st.2 in
         let same : work_line t (g.level c) feeds (before c) (part_value g i.part ∷ []) ≡ work_line t n feeds cell (d.value ∷ [])
-            = ap (λ o. work_line t (g.level c) feeds o (part_value g i.part ∷ [])) (kp.2 tt) ∙ ap (λ v. work_line t (g.level c) feeds cell (v ∷ [])) (r (each_known i.part)) in
+        = ap (λ o. work_line t (g.level c) feeds o (part_value g i.part ∷ [])) (kp.2 tt) ∙ ap (λ v. work_line t (g.level c) feeds cell (v ∷ [])) (r (each_known i.part)) in
         let clean = subst IsClean same rule.clean in
         let name : g.value c ≡ x0 = rule.value ∙ ap (λ l. l.value) same in
         let wide : length inside ≡ length env + 1 = length-append env (signal c ∷ []) in
@@ -328,10 +327,10 @@ module _ (g : Graph) (p : Plan) (pr : Program) (plan : IsPlanOf pr p) (sources :
         let comes : state_next of_feedback (d.value ∷ b.value ∷ []) ≡ Ok latched.taken = ap (latch feeds) (sym value) ∙ latched.takes in
         let refusal = option_none (refusal_in (base_of cell d.value)) clean.refusal in
         let line : IsClean (refused_by (refusal_in (base_of cell d.value)) (beside b.value (state_next of_feedback (d.value ∷ b.value ∷ []))))
-            = let c = beside_clean b.value (state_next of_feedback (d.value ∷ b.value ∷ [])) latched.taken r1.good comes in
-              record { value = c.value; inner = c.inner; refusal = ap (λ o. option_or o (beside b.value (state_next of_feedback (d.value ∷ b.value ∷ []))).refusal) refusal ∙ c.refusal } in
+        = let c = beside_clean b.value (state_next of_feedback (d.value ∷ b.value ∷ [])) latched.taken r1.good comes in
+        record { value = c.value; inner = c.inner; refusal = ap (λ o. option_or o (beside b.value (state_next of_feedback (d.value ∷ b.value ∷ []))).refusal) refusal ∙ c.refusal } in
         opens (core.Feedback (f init) (f body)) (Core-F.Feedback (f init) (f body)) k (outs-Feedback (f init) (f body))
-          (line_errless (join_part 0 d (join_part 1 b no_parts)) _ (both_none (under 0 d.first) _ (under_none 0 d.first h.first) (both_none (under 1 b.first) None (under_none 1 b.first r1.first) refl)) line)
+        (line_errless (join_part 0 d (join_part 1 b no_parts)) _ (both_none (under 0 d.first) _ (under_none 0 d.first h.first) (both_none (under 1 b.first) None (under_none 1 b.first r1.first) refl)) line)
       where
         zero_more : (m : ℕ) → m + 0 ≡ m
         zero_more m = omega arith
@@ -341,7 +340,7 @@ module _ (g : Graph) (p : Plan) (pr : Program) (plan : IsPlanOf pr p) (sources :
         let clean = work_clean g everything t sources before closed settled p x n (runs id.0) (slot_parts p env ss) others ms None refl st.1 slots (λ e. absurd (false≢true (sym e))) tt in
         let m = kernel_means g everything p pr plan sources before closed settled eras means n few (agrees_at n below) x env vs en (suc n) id.0 0 ss [] k few s.fits refl in
         subst (λ us. Errless (eval_to (suc n) w (kernel_expr t.kernels id.0) us k)) (append-nil vs)
-          (record { first = sym m.first ∙ clean.inner; good = ap own (sym m.value) ∙ clean.value })
+        (record { first = sym m.first ∙ clean.inner; good = ap own (sym m.value) ∙ clean.value })
 
   -- NO ERROR. Where an instant of a graph has ended, evaluating afresh errs nowhere.
   pub errless_on : (n : ℕ) → n ≤ 2001 → ErrlessAt n
@@ -350,4 +349,4 @@ module _ (g : Graph) (p : Plan) (pr : Program) (plan : IsPlanOf pr p) (sources :
   errless_on (suc n) few e x env vs ms k s en good st kp =
       let below : n ≤ 2001 = omega (arith, few) in
       subst (λ c. Errless (eval_to (suc n) w c vs k)) (sym (erase-opens t.kernels e))
-        (shape_errless n few (errless_on n below) x env vs en good (out-Low e) ms k (sound_shape t (length env) e s) st kp)
+      (shape_errless n few (errless_on n below) x env vs en good (out-Low e) ms k (sound_shape t (length env) e s) st kp)

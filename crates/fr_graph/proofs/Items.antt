@@ -98,8 +98,8 @@ module _ (g : Graph) (p : Plan) (pr : Program) (plan : IsPlanOf pr p) (sources :
         let h = errless_on g p pr plan sources before rules eras means ended n few e x env vs ms (child k i) s.0 en good st.0 kp.0 in
         let part = (walk e env ms).part in
         both_none (under i d.first) _ (under_none i d.first h.first)
-          (items_errless is x (i + 1) (env ++ part ∷ []) (vs ++ d.value ∷ []) (walk e env ms).left k (subst (λ m. ItemsSound t m is) (sym (length_push env part)) s.1)
-            (have_append g everything env vs (part ∷ []) (d.value ∷ []) en (r, tt)) (good_append vs (d.value ∷ []) good (h.good, tt)) st.1 kp.1)
+        (items_errless is x (i + 1) (env ++ part ∷ []) (vs ++ d.value ∷ []) (walk e env ms).left k (subst (λ m. ItemsSound t m is) (sym (length_push env part)) s.1)
+        (have_append g everything env vs (part ∷ []) (d.value ∷ []) en (r, tt)) (good_append vs (d.value ∷ []) good (h.good, tt)) st.1 kp.1)
     items_errless (low_item.Show name e ∷ is) x i env vs ms k s en good st kp =
         let d = ev (erase t.kernels e) vs (child k i) in
         let h = errless_on g p pr plan sources before rules eras means ended n few e x env vs ms (child k i) s.0 en good st.0 kp.0 in
@@ -125,7 +125,7 @@ instant_afresh was g pr p is ms sources before k lowered go had has settled stoo
       shows = subst (λ b. Have g everything (place_items (body_walk p) [] is ms).parts (items (eval_to 2000 (world_of pr sources)) [] k 0 b).shown) (sym lowered.items)
           (items_show g p pr lowered.plan sources before settled.rules has.eras settled.ended 2000 few is 0 0 [] [] ms k lowered.sound tt has.items kp);
       errless = ap (λ b. (items (eval_to 2000 (world_of pr sources)) [] k 0 b).first) lowered.items
-        ∙ items_errless g p pr lowered.plan sources before settled.rules has.eras settled.ended 2000 few is 0 0 [] [] ms k lowered.sound tt tt has.items kp;
+          ∙ items_errless g p pr lowered.plan sources before settled.rules has.eras settled.ended 2000 few is 0 0 [] [] ms k lowered.sound tt tt has.items kp;
       stands = subst (λ b. StandsForTree g p is ms (kept.Group (items (eval_to 2000 (world_of pr sources)) [] k 0 b).kepts)) (sym lowered.items)
           (items_keep g p pr lowered.plan sources before settled.rules has.eras settled.ended 2000 few is 0 0 [] [] ms k [] refl lowered.sound tt has.items kp);
     }
@@ -153,7 +153,7 @@ first_afresh was g pr p is ms sources before lowered empty go has settled =
       shows = subst (λ b. Have g everything (place_items (body_walk p) [] is ms).parts (items (eval_to 2000 (world_of pr sources)) [] kept.Nothing 0 b).shown) (sym lowered.items)
           (items_show g p pr lowered.plan sources before settled.rules has.eras settled.ended 2000 few is 0 0 [] [] ms kept.Nothing lowered.sound tt has.items kp);
       errless = ap (λ b. (items (eval_to 2000 (world_of pr sources)) [] kept.Nothing 0 b).first) lowered.items
-        ∙ items_errless g p pr lowered.plan sources before settled.rules has.eras settled.ended 2000 few is 0 0 [] [] ms kept.Nothing lowered.sound tt tt has.items kp;
+          ∙ items_errless g p pr lowered.plan sources before settled.rules has.eras settled.ended 2000 few is 0 0 [] [] ms kept.Nothing lowered.sound tt tt has.items kp;
       stands = subst (λ b. StandsForTree g p is ms (kept.Group (items (eval_to 2000 (world_of pr sources)) [] kept.Nothing 0 b).kepts)) (sym lowered.items)
           (items_keep g p pr lowered.plan sources before settled.rules has.eras settled.ended 2000 few is 0 0 [] [] ms kept.Nothing [] refl lowered.sound tt has.items kp);
     }

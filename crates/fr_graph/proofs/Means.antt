@@ -25,10 +25,10 @@ kernels_mean pr p sources plan n i k few there vs args near own tree =
     let slots : map (slot_seen sources vs) k.slots ≡ _ = ap (map (slot_seen sources vs)) (plan.slots i k there) ∙ slots_seen s sources vs in
     let code = eval_to n (world pr.functions) (numbered s k.expr) (values_of s sources vs args) kept.Nothing in
     let run : kernel_run p.table n i (map (slot_seen sources vs) k.slots) args ≡ code
-        = ap (λ o. run_of p.table n o (map (slot_seen sources vs) k.slots) args) there
-          ∙ ap (λ us. eval_to n (world_at p.table []) (numbered s k.expr) (us ++ args) kept.Nothing) slots
-          ∙ ap (λ fs. eval_to n (world fs) (numbered s k.expr) (values_of s sources vs args) kept.Nothing) plan.table in
+    = ap (λ o. run_of p.table n o (map (slot_seen sources vs) k.slots) args) there
+    ∙ ap (λ us. eval_to n (world_at p.table []) (numbered s k.expr) (us ++ args) kept.Nothing) slots
+    ∙ ap (λ fs. eval_to n (world fs) (numbered s k.expr) (values_of s sources vs args) kept.Nothing) plan.table in
     let there : AreAlike code (eval_to n (world_of pr sources) k.expr (vs ++ args) tree)
-        = subst (λ m. AreAlike (eval_to m (world pr.functions) (numbered s k.expr) (values_of s sources vs args) kept.Nothing) (eval_to m (world_of pr sources) k.expr (vs ++ args) tree)) levels
-          (record { value = sym same.value; first = sym same.first }) in
+    = subst (λ m. AreAlike (eval_to m (world pr.functions) (numbered s k.expr) (values_of s sources vs args) kept.Nothing) (eval_to m (world_of pr sources) k.expr (vs ++ args) tree)) levels
+    (record { value = sym same.value; first = sym same.first }) in
     subst (λ d. AreAlike d (eval_to n (world_of pr sources) k.expr (vs ++ args) tree)) (sym run) there

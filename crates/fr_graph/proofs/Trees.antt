@@ -275,7 +275,7 @@ module _ (g : Graph) (p : Plan) (pr : Program) (plan : IsPlanOf pr p) (sources :
         let last = late_there o ps late takes in
         let latched = ended.latched (first ms) (operates o) last.0 next.live next.kind late (next.later ∙ last.2) in
         let same : part_value g last.0 ≡ part us (late_part o)
-            = ap (λ h. part_value g (variable_part h)) (sym last.1) ∙ have_at g everything ps us (late_part o) have (each_known _) in
+        = ap (λ h. part_value g (variable_part h)) (sym last.1) ∙ have_at g everything ps us (late_part o) have (each_known _) in
         (latched.taken, sym (late_next o us late) ∙ ap (latch (operates o)) (sym same) ∙ latched.takes, latched.kept)
 
     late_kept : (o : Operator) (ps : List Part) (us : List Seen) (ms : List ℕ) (c : Option Cell) → is_plain (operates o) ≡ false → is_late (operates o) ≡ true → operator_takes o (length ps) ≡ true

@@ -102,7 +102,7 @@ module _ (g : Graph) (known : ℕ → Type 0) (p : Plan) (pr : Program) (plan : 
     kernel_means m id b ss args tree le fit e =
         let said = means m id fit.kernel le fit.stands vs args (sym (have_length g known env vs en) ∙ sym fit.first) (e ∙ sym fit.params) tree in
         subst (λ us. AreAlike (kernel_run t m id (map (slot_seen sources vs) us) args) (eval_to m w (kernel_expr t.kernels id) (vs ++ args) tree)) fit.slots
-          (subst (λ o. AreAlike (kernel_run t m id (map (slot_seen sources vs) fit.kernel.slots) args) (eval_to m w (expr_in o) (vs ++ args) tree)) (sym fit.stands) said)
+        (subst (λ o. AreAlike (kernel_run t m id (map (slot_seen sources vs) fit.kernel.slots) args) (eval_to m w (expr_in o) (vs ++ args) tree)) (sym fit.stands) said)
 
     -- a switch
 
