@@ -1,0 +1,4 @@
+pub mod Lives
+pub mod Kept
+pub mod Order
+pub mod Left

@@ -1,0 +1,9 @@
+//! Eras of the graph of signals: which nodes live together and end together.
+#![tactic(auto)]
+
+mod ending;
+mod eras;
+mod order;
+
+pub use eras::Eras;
+pub use order::Members;
