@@ -16,9 +16,13 @@ members lives era = list_at lives.lists (era + 1)
 abbrev pub grave : Lives → List ℕ
 grave lives = list_at lives.lists 0
 
+-- Whether a number is told by a list of flags.
+abbrev pub is_set : List Bool → ℕ → Bool
+is_set flags number = slice_index_or flags number false
+
 -- Whether an era is there.
 abbrev pub is_era : Lives → ℕ → Bool
-is_era lives era = slice_index_or lives.begun era false
+is_era lives era = is_set lives.begun era
 
 -- The era of the program is there, without members, and no other.
 pub record AreNew (lives : Lives) : Type 0 where

@@ -2,7 +2,7 @@
 ghost use Rattle.std.specs.Prelude.{◌≡◌, ◌≢◌, ℕ, ◌+◌, ◌^◌, ◌<◌, ◌≤◌, [], false, length};
 ghost use Rattle.fr_links.specs.Lists.{list_at};
 ghost use Rattle.fr_queue.specs.Queue.{KeepsRoom};
-ghost use Rattle.fr_eras.specs.Lives.{EndsEra, Killed, LeavesQueue, Under};
+ghost use Rattle.fr_eras.specs.Lives.{EndsEra, Killed, LeavesQueue, Under, is_set};
 ghost use Rattle.fr_eras.specs.Kept.{AreApart, AreLives, Moving, NoneCame, lives_of};
 
 use fr_links::Links;
@@ -33,6 +33,17 @@ fn move_members(links: &mut Links, list: usize)
     }
 }
 
+/// Makes a flag false; those past the end are.
+fn clear_flag(flags: &mut Vec<bool>, number: usize)
+    ensures len { length flags.new.items ≡ length flags.old.items }
+    ensures here { is_set flags.new.items number ≡ false }
+    ensures others { (other : ℕ) → other ≢ number → is_set flags.new.items other ≡ is_set flags.old.items other }
+{
+    if number < flags.len() {
+        flags[number] = false;
+    }
+}
+
 /// Ends one era, or does nothing where there is none with this number.
 fn end_era(links: &mut Links, begun: &mut Vec<bool>, era: usize)
     requires lives { AreLives (lives_of links.old.lists begun.old.items) }
@@ -43,9 +54,7 @@ fn end_era(links: &mut Links, begun: &mut Vec<bool>, era: usize)
     ensures came { NoneCame links.old.lists links.new.lists }
 {
     move_members(links, list_of_era(era));
-    if let Some(is) = begun.get_mut(era) {
-        *is = false;
-    }
+    clear_flag(begun, era);
 }
 
 /// Ends an era with all eras under it, and takes their nodes out of the agenda. The end of the grave is the list of what

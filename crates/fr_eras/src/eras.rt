@@ -1,6 +1,6 @@
-ghost use Rattle.std.specs.Prelude.{◌≡◌, ◌≢◌, ℕ, ◌+◌, ◌<◌, [], false, Some, None, IsSome, IsTrue, IfOk, IfSome, OnErr, OnOk, ◌↔◌, slice_get};
+ghost use Rattle.std.specs.Prelude.{◌≡◌, ◌≢◌, ℕ, ◌+◌, ◌<◌, ◌≤◌, [], false, length, max, Some, None, IsSome, IsTrue, IfOk, IfSome, OnErr, OnOk, ◌↔◌, slice_get};
 ghost use Rattle.fr_links.specs.Lists.{has_item};
-ghost use Rattle.fr_eras.specs.Lives.{AreNew, AreSame, BeginsEra, IsAlone, IsMember, JoinsEra, grave, is_era, members};
+ghost use Rattle.fr_eras.specs.Lives.{AreNew, AreSame, BeginsEra, IsAlone, IsMember, JoinsEra, grave, is_era, is_set, members};
 ghost use Rattle.fr_eras.specs.Order.{node_at, nodes_of};
 
 use crate::ending::{GRAVE, list_of_era};
@@ -64,7 +64,8 @@ impl Eras {
     {
         let era = owner.0 + 1;
         self.links.reserve(list_of_era(era as usize) + 1, 0)?;
-        begin_at(&mut self.begun, era as usize)?;
+        add_flags(&mut self.begun, era as usize + 1)?;
+        self.begun[era as usize] = true;
         Ok(EraId(era))
     }
 
@@ -134,11 +135,14 @@ impl Eras {
     }
 }
 
-/// Tells that this number is an era's.
-fn begin_at(begun: &mut Vec<bool>, era: usize) -> Result<(), AllocError> {
-    for _ in begun.len()..era + 1 {
-        begun.push(false)?;
+/// Makes room for so many flags; new ones are false.
+fn add_flags(flags: &mut Vec<bool>, many: usize) -> Result<(), AllocError>
+    ensures enough { OnOk result (many ≤ length flags.new.items) }
+    ensures few { length flags.new.items ≤ max (length flags.old.items) many }
+    ensures same { (number : ℕ) → is_set flags.new.items number ≡ is_set flags.old.items number }
+{
+    if flags.len() < many {
+        flags.resize(many, false)?;
     }
-    begun[era] = true;
     Ok(())
 }

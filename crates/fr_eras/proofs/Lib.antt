@@ -1,0 +1,5 @@
+pub mod Lookups
+pub mod Places
+pub mod Moves
+pub mod Lasting
+pub mod Kills
