@@ -2,7 +2,7 @@
 use Rattle.std.proofs.Common.{◌≡◌, ◌≢◌, ℕ, zero, suc, ◌+◌, ◌-◌, ◌^◌, ◌<◌, ◌≤◌, List, [], ◌∷◌, ◌++◌, length, ◌⊎◌, inl, inr, max, replicate, Bool, true, false, nat_eq, get_or, slice_set, refl, sym, ap, ◌∙◌, subst, arith, length-set, length-append, get_or-set_same, get_or-set_other}
 use Rattle.std.specs.List.{AllClonesOf}
 use Rattle.std.proofs.lemmas.List.{get_or_past, length-replicate}
-use Rattle.fr_links.specs.Lists.{Linked, has_item, list_at, with_empty, with_last}
+use Rattle.fr_links.specs.Lists.{has_item, list_at, with_empty, with_last}
 use Rattle.fr_links.specs.Rings.{AllDifferent}
 use Rattle.fr_links.proofs.Has.{by_number, by_truth, differ, different_push, true_false}
 use Rattle.fr_eras.specs.Lives.{Lives, AreNew, AreSame, BeginsEra, IsAlone, JoinsEra, grave, is_era, members}
@@ -55,14 +55,10 @@ module _ (old new : List (List ℕ)) (begun after : List Bool) (same : (l : ℕ)
     few = few;
   }
 
-  pub kept_room : (work more : Linked) → length work.lists ≤ length more.lists → work.items ≤ more.items → HasRoom (lives_of old begun) work
-      → HasRoom (lives_of new after) more
-  kept_room work more lists items room = record {
-    list = (let p : 0 < length work.lists = room.list in omega arith);
-    items = λ l i h.
-        let p : i < work.items = room.items l i (subst (λ (xs : List ℕ). has_item xs i ≡ true) (same l) h) in
-        omega arith;
-  }
+  pub kept_room : (room more : ℕ) → room ≤ more → HasRoom (lives_of old begun) room → HasRoom (lives_of new after) more
+  kept_room room more le has l i h =
+      let p : i < room = has l i (subst (λ (xs : List ℕ). has_item xs i ≡ true) (same l) h) in
+      omega arith
 
   pub are_same : ((era : ℕ) → is_era (lives_of new after) era ≡ is_era (lives_of old begun) era) → AreSame (lives_of old begun) (lives_of new after)
   are_same flags = record { each = λ era. same (era + 1); eras = flags; buried = same 0 }
@@ -79,12 +75,9 @@ module _ (old new : List (List ℕ)) (begun after : List Bool) (same : (l : ℕ)
   }
 
 -- what came into no list keeps its room
-pub room_stays : (old new : List (List ℕ)) (begun after : List Bool) (work : Linked) → NoneCame old new → HasRoom (lives_of old begun) work
-    → HasRoom (lives_of new after) work
-room_stays old new begun after work came room = record {
-  list = room.list;
-  items = λ l i h. let c = came l i h in room.items c.0 i c.1;
-}
+pub room_stays : (old new : List (List ℕ)) (begun after : List Bool) (room : ℕ) → NoneCame old new → HasRoom (lives_of old begun) room
+    → HasRoom (lives_of new after) room
+room_stays old new begun after room came has l i h = let c = came l i h in has c.0 i c.1
 
 pub absent : (lists : List (List ℕ)) (begun : List Bool) (item : ℕ) → IsAlone (lives_of lists begun) item → (l : ℕ) → has_item (list_at lists l) item ≡ false
 absent lists begun item alone l = elim (by_number l 0) [
@@ -149,15 +142,12 @@ module _ (lists : List (List ℕ)) (begun : List Bool) (lives : AreLives (lives_
     few = lives.few;
   }
 
-  pub joined_room : (work : Linked) → HasRoom (lives_of lists begun) work → item < work.items
-      → HasRoom (lives_of (with_last lists (era + 1) item) begun) work
-  joined_room work room fits = record {
-    list = room.list;
-    items = λ l i h. elim (came l i h) [
-      | inl p ↦ subst (λ (n : ℕ). n < work.items) (sym p.1) fits
-      | inr p ↦ room.items l i p.0
-    ];
-  }
+  pub joined_room : (room more : ℕ) → HasRoom (lives_of lists begun) room → room ≤ more → item < more
+      → HasRoom (lives_of (with_last lists (era + 1) item) begun) more
+  joined_room room more has le fits l i h = elim (came l i h) [
+    | inl p ↦ subst (λ (n : ℕ). n < more) (sym p.1) fits
+    | inr p ↦ let q : i < room = has l i p.0 in omega arith
+  ]
 
   pub joins_era : JoinsEra (lives_of lists begun) (lives_of (with_last lists (era + 1) item) begun) era item
   joins_era = record {
@@ -171,7 +161,7 @@ module _ (lists : List (List ℕ)) (begun : List Bool) (lives : AreLives (lives_
 new_lists : (many l : ℕ) → list_at (with_empty [] many) l ≡ []
 new_lists many l = at_empty [] many l
 
-module _ (lists : List (List ℕ)) (begun : List Bool) (work : Linked) (is : lists ≡ with_empty [] 2) (flags : begun ≡ true ∷ []) (room : work.lists ≡ with_empty [] 1) where
+module _ (lists : List (List ℕ)) (begun : List Bool) (room : ℕ) (is : lists ≡ with_empty [] 2) (flags : begun ≡ true ∷ []) where
   empty : (l : ℕ) → list_at lists l ≡ []
   empty l = ap (λ (ls : List (List ℕ)). list_at ls l) is ∙ new_lists 2 l
 
@@ -185,7 +175,7 @@ module _ (lists : List (List ℕ)) (begun : List Bool) (work : Linked) (is : lis
       one_flag zero = refl
       one_flag (suc era) = refl
 
-  pub new_eras : AreEras (lives_of lists begun) work
+  pub new_eras : AreEras (lives_of lists begun) room
   new_eras = record {
     lives = record {
       apart = record {
@@ -198,10 +188,7 @@ module _ (lists : List (List ℕ)) (begun : List Bool) (work : Linked) (is : lis
       places = subst (λ (ls : List (List ℕ)). length begun < length ls) (sym is) (subst (λ (bs : List Bool). length bs < 2) (sym flags) (omega arith));
       few = subst (λ (bs : List Bool). length bs ≤ 2 ^ 24 + 1) (sym flags) (omega arith);
     };
-    room = record {
-      list = subst (λ (ls : List (List ℕ)). 0 < length ls) (sym room) (omega arith);
-      items = λ l i h. true_false (has_item (list_at lists l) i) h (absent_at_first l i);
-    };
+    room = λ l i h. true_false (has_item (list_at lists l) i) h (absent_at_first l i);
   }
 
   pub are_new : AreNew (lives_of lists begun)

@@ -9,7 +9,7 @@ use Rattle.fr_eras.specs.Lives.{Lives, EndsEra, grave, is_era, members}
 use Rattle.fr_eras.specs.Kept.{AreApart, AreLives, Moving, NoneCame, lives_of}
 use Rattle.fr_eras.proofs.Lookups.{at_last, at_other, at_without}
 
-alone_is : (x y : ℕ) → has_item (x ∷ []) y ≡ true → y ≡ x
+pub alone_is : (x y : ℕ) → has_item (x ∷ []) y ≡ true → y ≡ x
 alone_is x y h = elim (by_number y x) [
   | inl e ↦ e
   | inr apart ↦ true_false (has_item (x ∷ []) y) h (not_alone x y apart)

@@ -23,15 +23,14 @@ pub record AreLives (lives : Lives) : Type 0 where
   pub places : length lives.begun < length lives.lists
   pub few : length lives.begun ≤ 2 ^ 24 + 1
 
--- The list of work that is left has room for every node in an era or the grave.
-pub record HasRoom (lives : Lives) (work : Linked) : Type 0 where
-  pub list : 0 < length work.lists
-  pub items : (l i : ℕ) → has_item (list_at lives.lists l) i ≡ true → i < work.items
+-- The list of work has room for every node in an era or the grave.
+abbrev pub HasRoom : Lives → ℕ → Type 0
+HasRoom lives room = (l i : ℕ) → has_item (list_at lives.lists l) i ≡ true → i < room
 
 -- What holds of all eras.
-pub record AreEras (lives : Lives) (work : Linked) : Type 0 where
+pub record AreEras (lives : Lives) (room : ℕ) : Type 0 where
   pub lives : AreLives lives
-  pub room : HasRoom lives work
+  pub room : HasRoom lives room
 
 -- Some first items of a list went to the end of list 0, and nothing else changed.
 pub record Moving (old new : List (List ℕ)) (list : ℕ) : Type 0 where

@@ -8,9 +8,13 @@ pub record Lives : Type 0 where
   pub lists : List (List ℕ)
   pub begun : List Bool
 
+-- The members of an era, by the lists.
+abbrev pub eras_in : List (List ℕ) → ℕ → List ℕ
+eras_in lists era = list_at lists (era + 1)
+
 -- The members of an era in order of creation; there are none where the era isn't there.
 abbrev pub members : Lives → ℕ → List ℕ
-members lives era = list_at lives.lists (era + 1)
+members lives = eras_in lives.lists
 
 -- The nodes in the grave, in the order in which they came there.
 abbrev pub grave : Lives → List ℕ

@@ -5,6 +5,7 @@ ghost use Rattle.fr_eras.specs.Order.{node_at, nodes_of};
 
 use crate::ending::{GRAVE, list_of_era};
 use crate::order::Members;
+use crate::work::Work;
 use fr_links::Links;
 use fr_value::{EraId, NodeId};
 use std::alloc::{AllocError, Global};
@@ -22,8 +23,8 @@ pub struct Eras {
     links: Links,
     /// Which numbers are eras'.
     begun: Vec<bool>,
-    /// List 0 has the nodes from which heights are still to be raised. It is empty between calls.
-    work: Links,
+    /// The nodes from which heights are still to be raised.
+    work: Work,
 }
 
 impl Model for Eras {
@@ -34,7 +35,7 @@ impl Model for Eras {
 
     ghost view = { λ eras. lives_of eras.links.lists eras.begun.items };
 
-    ghost invariant = { λ eras. AreEras (lives_of eras.links.lists eras.begun.items) eras.work };
+    ghost invariant = { λ eras. AreEras (lives_of eras.links.lists eras.begun.items) eras.work.room };
 }
 
 impl Eras {
@@ -46,8 +47,7 @@ impl Eras {
     {
         let mut links = Links::new(alloc);
         links.reserve(2, 0)?;
-        let mut work = Links::new(alloc);
-        work.reserve(1, 0)?;
+        let work = Work::new(alloc)?;
         let mut begun = Vec::new(alloc);
         begun.push(true)?;
         Ok(Eras { links, begun, work })
@@ -79,7 +79,7 @@ impl Eras {
     {
         let item = node.0 as usize;
         self.links.reserve(0, item + 1)?;
-        self.work.reserve(1, item + 1)?;
+        self.work.make_room(item)?;
         self.links.push_back(list_of_era(era.0 as usize), item);
         Ok(())
     }

@@ -4,6 +4,7 @@
 mod ending;
 mod eras;
 mod order;
+mod work;
 
 pub use eras::Eras;
 pub use order::Members;
