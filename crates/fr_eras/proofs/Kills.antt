@@ -180,8 +180,8 @@ module _ (old cur : Lives) (before queue : Queued) (era : ℕ) (k : Killing old 
   ]
 
   all_seen : (node : ℕ) → Under old era node → has_item k.seen node ≡ true
-  all_seen node (Here node h) = none_waits node ((k.done era (inl refl)).2 node h)
-  all_seen node (Deeper node owner h u) = none_waits node ((k.done (owner + 1) (inr (owner, all_seen owner u, refl))).2 node h)
+  all_seen m (Here node h) = none_waits m ((k.done era (inl refl)).2 m h)
+  all_seen m (Deeper node owner h u) = none_waits m ((k.done (owner + 1) (inr (owner, all_seen owner u, refl))).2 m h)
 
   pub killed : Killed old cur era
   killed = record {

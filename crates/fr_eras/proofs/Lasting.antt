@@ -1,13 +1,13 @@
 -- What lasts where an era begins and where a node joins one.
-use Rattle.std.proofs.Common.{◌≡◌, ◌≢◌, ℕ, zero, suc, ◌+◌, ◌-◌, ◌^◌, ◌<◌, ◌≤◌, List, [], ◌∷◌, ◌++◌, length, ◌⊎◌, inl, inr, max, replicate, Bool, true, false, nat_eq, get_or, slice_set, refl, sym, ap, ◌∙◌, subst, arith, length-set, length-append, get_or-set_same, get_or-set_other}
+use Rattle.std.proofs.Common.{◌≡◌, ◌≢◌, ℕ, zero, suc, ◌+◌, ◌-◌, ◌^◌, ◌<◌, ◌≤◌, List, [], ◌∷◌, ◌++◌, length, ◌⊎◌, inl, inr, max, replicate, None, Bool, true, false, nat_eq, get_or, slice_set, refl, sym, ap, ◌∙◌, subst, arith, length-set, length-append, get_or-set_same, get_or-set_other}
 use Rattle.std.specs.List.{AllClonesOf}
 use Rattle.std.proofs.lemmas.List.{get_or_past, length-replicate}
-use Rattle.fr_links.specs.Lists.{has_item, list_at, with_empty, with_last}
+use Rattle.fr_links.specs.Lists.{has_item, list_at, list_of, with_empty, with_last}
 use Rattle.fr_links.specs.Rings.{AllDifferent}
-use Rattle.fr_links.proofs.Has.{by_number, by_truth, differ, different_push, true_false}
-use Rattle.fr_eras.specs.Lives.{Lives, AreNew, AreSame, BeginsEra, IsAlone, JoinsEra, grave, is_era, members}
+use Rattle.fr_links.proofs.Has.{by_number, by_truth, differ, different_push, eq_apart, true_false}
+use Rattle.fr_eras.specs.Lives.{Lives, AreNew, AreSame, BeginsEra, IsAlone, JoinsEra, grave, is_era, is_set, members}
 use Rattle.fr_eras.specs.Kept.{AreApart, AreEras, AreLives, HasRoom, NoneCame, lives_of}
-use Rattle.fr_eras.proofs.Lookups.{at_empty, at_last, at_other, has_inside}
+use Rattle.fr_eras.proofs.Lookups.{at_empty, at_last, at_other, has_inside, in_no_list}
 use Rattle.fr_eras.proofs.Moves.{pushed_is}
 
 by_bound : (i n : ℕ) → (i < n) ⊎ (n ≤ i)
@@ -23,11 +23,13 @@ list_inside begun lists era lives is =
     let places : length begun < length lists = lives.places in
     omega arith
 
+abbrev padding : ℕ → List (List ℕ)
+padding many = replicate many []
+
 pub length_empty : (lists : List (List ℕ)) (many : ℕ) → (length lists ≤ length (with_empty lists many)) × (many ≤ length (with_empty lists many))
 length_empty lists many =
-    let e : length (with_empty lists many) ≡ length lists + length (replicate {X = List ℕ} (many - length lists) []) =
-    length-append lists (replicate (many - length lists) []) in
-    let f : length (replicate {X = List ℕ} (many - length lists) []) ≡ many - length lists = length-replicate {X = List ℕ} (many - length lists) [] in
+    let e : length (with_empty lists many) ≡ length lists + length (padding (many - length lists)) = length-append lists (padding (many - length lists)) in
+    let f : length (padding (many - length lists)) ≡ many - length lists = length-replicate (many - length lists) [] in
     (omega arith, omega arith)
 
 -- the same lists, maybe with empty ones behind
@@ -157,6 +159,44 @@ module _ (lists : List (List ℕ)) (begun : List Bool) (lives : AreLives (lives_
     buried = at_other lists (era + 1) 0 item (no_grave era);
   }
 
+grown_same : (old new : List (List ℕ)) (many : ℕ) → new ≡ with_empty old many → (l : ℕ) → list_at new l ≡ list_at old l
+grown_same old new many is l = ap (λ (ls : List (List ℕ)). list_at ls l) is ∙ at_empty old many l
+
+-- lists and flags were added, for an era
+pub grown_eras : (old new : List (List ℕ)) (begun after : List Bool) (room era many : ℕ) → new ≡ with_empty old many → many ≡ era + 1 + 1 → era < 2 ^ 24 + 1
+    → length after ≤ max (length begun) (era + 1) → ((other : ℕ) → is_set begun other ≡ true → is_set after other ≡ true)
+    → AreEras (lives_of old begun) room → AreEras (lives_of new after) room
+grown_eras old new begun after room era many is long small few on eras =
+    let lists = length_empty old many in
+    let more : length old ≤ length new = subst (λ (ls : List (List ℕ)). length old ≤ length ls) (sym is) lists.0 in
+    let enough : many ≤ length new = subst (λ (ls : List (List ℕ)). many ≤ length ls) (sym is) lists.1 in
+    let places : length begun < length old = eras.fit.places in
+    let most : length begun ≤ 2 ^ 24 + 1 = eras.fit.few in
+    record {
+      fit = kept_lives old new begun after (grown_same old new many is) on (omega arith) (omega arith) eras.fit;
+      wide = kept_room old new begun after (grown_same old new many is) room room (omega arith) eras.wide;
+    }
+
+pub alone_now : (old new : List (List ℕ)) (begun : List Bool) (many item : ℕ) → new ≡ with_empty old many → IsAlone (lives_of old begun) item → list_of new item ≡ None
+alone_now old new begun many item is alone =
+    in_no_list new item (λ l. ap (λ (xs : List ℕ). has_item xs item) (grown_same old new many is l) ∙ absent old begun item alone l)
+
+pub joined_eras : (old new : List (List ℕ)) (begun : List Bool) (room more era item list : ℕ) → new ≡ with_empty old 0 → list ≡ era + 1
+    → is_era (lives_of old begun) era ≡ true → IsAlone (lives_of old begun) item → item < 2 ^ 32 → room ≤ more → item < more → AreEras (lives_of old begun) room
+    → AreEras (lives_of (with_last new list item) begun) more
+joined_eras old new begun room more era item list is at there alone small le fits eras =
+    let lists = length_empty old 0 in
+    let longer : length old ≤ length new = subst (λ (ls : List (List ℕ)). length old ≤ length ls) (sym is) lists.0 in
+    let places : length begun < length old = eras.fit.places in
+    let now : AreLives (lives_of new begun) = kept_lives old new begun begun (grown_same old new 0 is) (λ other e. e) (omega arith) eras.fit.few eras.fit in
+    let none : (l : ℕ) → has_item (list_at new l) item ≡ false =
+    λ l. ap (λ (xs : List ℕ). has_item xs item) (grown_same old new 0 is l) ∙ absent old begun item alone l in
+    subst (λ (l : ℕ). AreEras (lives_of (with_last new l item) begun) more) (sym at)
+    (record {
+      fit = joined_lives new begun now era item there none small;
+      wide = joined_room new begun now era item there none small room more (kept_room old new begun begun (grown_same old new 0 is) room room (omega arith) eras.wide) le fits;
+    })
+
 -- what holds at first
 new_lists : (many l : ℕ) → list_at (with_empty [] many) l ≡ []
 new_lists many l = at_empty [] many l
@@ -173,11 +213,11 @@ module _ (lists : List (List ℕ)) (begun : List Bool) (room : ℕ) (is : lists 
     where
       one_flag : (era : ℕ) → is_era (lives_of lists (true ∷ [])) era ≡ nat_eq era 0
       one_flag zero = refl
-      one_flag (suc era) = refl
+      one_flag (suc era) = sym (eq_apart (suc era) 0 (λ e. omega arith))
 
   pub new_eras : AreEras (lives_of lists begun) room
   new_eras = record {
-    lives = record {
+    fit = record {
       apart = record {
         once = λ l. subst AllDifferent (sym (empty l)) tt;
         one = λ l m i h g. true_false (has_item (list_at lists l) i) h (absent_at_first l i);
@@ -188,7 +228,7 @@ module _ (lists : List (List ℕ)) (begun : List Bool) (room : ℕ) (is : lists 
       places = subst (λ (ls : List (List ℕ)). length begun < length ls) (sym is) (subst (λ (bs : List Bool). length bs < 2) (sym flags) (omega arith));
       few = subst (λ (bs : List Bool). length bs ≤ 2 ^ 24 + 1) (sym flags) (omega arith);
     };
-    room = λ l i h. true_false (has_item (list_at lists l) i) h (absent_at_first l i);
+    wide = λ l i h. true_false (has_item (list_at lists l) i) h (absent_at_first l i);
   }
 
   pub are_new : AreNew (lives_of lists begun)

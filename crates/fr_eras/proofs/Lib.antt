@@ -3,3 +3,9 @@ pub mod Places
 pub mod Moves
 pub mod Lasting
 pub mod Kills
+pub mod Works
+pub mod Raises
+pub mod Only
+pub mod Readers
+pub mod Ranks
+pub mod Rising

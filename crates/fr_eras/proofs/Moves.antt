@@ -1,13 +1,14 @@
 -- The items of a list go to the end of list 0, one after another.
-use Rattle.std.proofs.Common.{◌≡◌, ◌≢◌, ℕ, ◌^◌, ◌<◌, ◌≤◌, List, [], ◌∷◌, ◌++◌, length, ◌⊎◌, inl, inr, Bool, true, false, refl, sym, ap, ◌∙◌, subst, arith, append_assoc, length-set}
+use Rattle.std.proofs.Common.{◌≡◌, ◌≢◌, ℕ, ◌+◌, ◌^◌, ◌<◌, ◌≤◌, List, [], ◌∷◌, ◌++◌, length, ◌⊎◌, inl, inr, Some, IsSome, slice_get, Bool, true, false, refl, sym, ap, ◌∙◌, subst, arith, append_assoc, length-set}
 use Rattle.std.proofs.lemmas.List.{append-nil, length-map}
-use Rattle.fr_links.specs.Lists.{has_item, list_at, others, with_last, without}
+use Rattle.fr_links.specs.Lists.{has_item, list_at, list_of, others, with_last, without}
 use Rattle.fr_links.specs.Rings.{AllDifferent}
 use Rattle.fr_links.proofs.Has.{by_number, by_truth, differ, different_push, has_append_cases, has_append_left, has_append_right, here, there, true_false}
 use Rattle.fr_links.proofs.Others.{others_absent, others_split}
 use Rattle.fr_eras.specs.Lives.{Lives, EndsEra, grave, is_era, members}
 use Rattle.fr_eras.specs.Kept.{AreApart, AreLives, Moving, NoneCame, lives_of}
-use Rattle.fr_eras.proofs.Lookups.{at_last, at_other, at_without}
+use Rattle.fr_eras.proofs.Lookups.{at_last, at_other, at_without, in_this_list, is_some}
+use Rattle.fr_eras.proofs.Places.{first_of, first_stands}
 
 pub alone_is : (x y : ℕ) → has_item (x ∷ []) y ≡ true → y ≡ x
 alone_is x y h = elim (by_number y x) [
@@ -105,6 +106,25 @@ module _ (lists : List (List ℕ)) (a : AreApart lists) (list m : ℕ) (rest : L
     where
       length_more : (xs : List ℕ) (x : ℕ) → length (x ∷ xs) ≡ length xs + 1
       length_more xs x = omega arith
+
+pub goes_on : (old lists : List (List ℕ)) (list m : ℕ) → Moving old lists list → Some m ≡ slice_get (list_at lists list) 0 → list ≢ 0 → 0 < length old
+    → Moving old (with_last (without lists m) 0 m) list
+goes_on old lists list m k first other long =
+    let f = first_of (list_at lists list) m first in
+    moved_one lists k.apart list m f.0 f.1 other (subst (λ (n : ℕ). 0 < n) (sym k.long) long) old k
+
+pub comes_nearer : (old lists : List (List ℕ)) (list m : ℕ) → Moving old lists list → Some m ≡ slice_get (list_at lists list) 0 → list ≢ 0 → 0 < length old
+    → length (list_at (with_last (without lists m) 0 m) list) < length (list_at lists list)
+comes_nearer old lists list m k first other long =
+    let f = first_of (list_at lists list) m first in
+    one_less lists k.apart list m f.0 f.1 other (subst (λ (n : ℕ). 0 < n) (sym k.long) long)
+
+-- an item of the lists, for calls of links
+pub stands_somewhere : (lists : List (List ℕ)) (l i : ℕ) → AreApart lists → has_item (list_at lists l) i ≡ true → IsSome (list_of lists i)
+stands_somewhere lists l i a h = is_some (list_of lists i) l (in_this_list lists i (λ m n g k. a.one m n i g k) l h)
+
+pub first_stands_somewhere : (lists : List (List ℕ)) (l i : ℕ) → AreApart lists → Some i ≡ slice_get (list_at lists l) 0 → IsSome (list_of lists i)
+first_stands_somewhere lists l i a first = stands_somewhere lists l i a (first_stands (list_at lists l) (Some i) first i refl)
 
 pub none_moved : (lists : List (List ℕ)) (list : ℕ) → AreApart lists → Moving lists lists list
 none_moved lists list a = record {

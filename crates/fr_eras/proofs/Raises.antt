@@ -41,7 +41,7 @@ noted_keeps work y a h = elim (by_truth (has_item work y)) [
   | inr n ↦ subst (λ (w : List ℕ). has_item w a ≡ true) (sym (noted_new work y n)) (has_append_left work (y ∷ []) a h)
 ]
 
-noted_is : (work : List ℕ) (y a : ℕ) → has_item (noted work y) a ≡ true → (has_item work a ≡ true) ⊎ (a ≡ y)
+pub noted_is : (work : List ℕ) (y a : ℕ) → has_item (noted work y) a ≡ true → (has_item work a ≡ true) ⊎ (a ≡ y)
 noted_is work y a h = elim (by_truth (has_item work y)) [
   | inl g ↦ inl (subst (λ (w : List ℕ). has_item w a ≡ true) (noted_old work y g) h)
   | inr n ↦ pushed_is work y a (subst (λ (w : List ℕ). has_item w a ≡ true) (noted_new work y n) h)

@@ -92,4 +92,4 @@ AreListed lives store = (i : ℕ) → IsSome (node_at store i) → IsMember live
 -- There is room in the agenda for every node up to a height, and in the list of work for every node.
 pub record HasRoomFor (room : Room) (work : ℕ) (store : Stored) (greatest : ℕ) : Type 0 where
   pub queue : HasQueueRoom room store greatest
-  pub work : (i : ℕ) → IsSome (node_at store i) → i < work
+  pub list : (i : ℕ) → IsSome (node_at store i) → i < work

@@ -29,8 +29,8 @@ HasRoom lives room = (l i : ℕ) → has_item (list_at lives.lists l) i ≡ true
 
 -- What holds of all eras.
 pub record AreEras (lives : Lives) (room : ℕ) : Type 0 where
-  pub lives : AreLives lives
-  pub room : HasRoom lives room
+  pub fit : AreLives lives
+  pub wide : HasRoom lives room
 
 -- Some first items of a list went to the end of list 0, and nothing else changed.
 pub record Moving (old new : List (List ℕ)) (list : ℕ) : Type 0 where

@@ -1,10 +1,9 @@
--- The members that an iterator has left.
-use Rattle.std.specs.Prelude.{List}
-use Rattle.fr_value.specs.declared.ids.NodeId.{NodeId}
-use Rattle.fr_links.specs.Lists.{list_at}
-use Rattle.fr_eras.specs.declared.order.Members.{Members}
-use Rattle.fr_eras.specs.Order.{from_here, nodes_of}
+-- How the members that are left are kept.
+use Rattle.std.specs.Prelude.{◌≡◌, ℕ, List, Option, Some, true}
+use Rattle.fr_links.specs.Lists.{has_item, list_at}
+use Rattle.fr_eras.specs.Kept.{AreApart}
 
--- The members from the one that comes next on.
-abbrev pub members_left : Members → List NodeId
-members_left left = nodes_of (from_here (list_at left.links.now.lists left.list) left.at)
+-- The item that comes next stands in the list.
+pub record AreLeft (lists : List (List ℕ)) (list : ℕ) (at : Option ℕ) : Type 0 where
+  pub apart : AreApart lists
+  pub stands : (item : ℕ) → at ≡ Some item → has_item (list_at lists list) item ≡ true

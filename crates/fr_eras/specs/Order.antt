@@ -1,6 +1,6 @@
 -- The order in which members are gone over.
 use Rattle.std.specs.Prelude.{ℕ, List, [], ◌∷◌, map, Option, Some, None, cond, nat_eq}
-use Rattle.core.specs.Option.{option_map}
+use Rattle.std.specs.Option.{option_map}
 use Rattle.fr_value.specs.declared.ids.NodeId.{NodeId}
 use Rattle.fr_links.specs.Lists.{list_at}
 

@@ -1,9 +1,11 @@
 -- What one step of a raising does to the store, the agenda and the list of work.
-use Rattle.std.specs.Prelude.{◌≡◌, ℕ, ◌+◌, ◌^◌, ◌<◌, ◌≤◌, List, length, ◌⊎◌, Option, true, drop}
+use Rattle.std.specs.Prelude.{◌≡◌, ℕ, ◌+◌, ◌^◌, ◌<◌, ◌≤◌, List, length, ◌⊎◌, Option, IsSome, true, drop}
+use Rattle.fr_links.specs.Lists.{has_item}
 use Rattle.fr_queue.specs.Queue.{KeepsRoom, Queued, Room}
-use Rattle.fr_store.specs.Nodes.{Edge, Stored, dependents_at, edge_number, has_reader}
+use Rattle.fr_store.specs.Nodes.{Edge, Stored, dependents_at, edge_number, has_reader, node_at}
 use Rattle.fr_eras.specs.Raise.{CanRaise, Edges, Raising, Steps}
-use Rattle.fr_eras.specs.Heights.{AreQueuedRight, HasRoomFor, IsAbove, IsKept, OnlyHeights, QueueFollows, height_at}
+use Rattle.fr_eras.specs.Heights.{AreQueuedRight, HasRoomFor, IsAbove, IsKept, IsResult, OnlyHeights, QueueFollows, height_at}
+use Rattle.fr_eras.specs.Order.{from_here}
 use Rattle.fr_eras.specs.Work.{Working}
 
 -- What is left to do from a node, by the store as the raising began.
@@ -34,7 +36,7 @@ pub record GoesOn (members : ℕ → List ℕ) (store : Stored) (work : List ℕ
 -- Whatever comes of it, only heights change, and room stays.
 pub record KeepsAll (old new : Stored) (room room' : Room) (work work' : Working) : Type 0 where
   pub only : OnlyHeights old new
-  pub room : KeepsRoom room room'
+  pub stays : KeepsRoom room room'
   pub more : work.room ≤ work'.room
 
 -- A part of a raising was done: from one rest to another.
@@ -42,6 +44,7 @@ pub record Advances (members : ℕ → List ℕ) (x : ℕ) (left rest : Rest) (o
   pub queue : QueueFollows queued queued' new
   pub steps : (base : Stored) → OnlyHeights base old
       → Steps (IsAbove base members) (length base.nodes) x (height_at old) work (left base) (height_at new) work' (rest base)
+  pub noted : (i : ℕ) → has_item work' i ≡ true → (has_item work i ≡ true) ⊎ IsSome (node_at new i)
 
 -- Where there is room, no memory is wanted.
 abbrev pub WantsNone : (ℕ → List ℕ) → Stored → Room → Working → ℕ → Rest → Type 0 → Type 0
@@ -59,3 +62,17 @@ pub record Reading (members : ℕ → List ℕ) (x : ℕ) (old new : Stored) (qu
   pub at_is : at ≡ edge_number (dependents_at old x) place
   pub keeps : KeepsAll old new room room' work work'
   pub advances : Advances members x (λ base. IsAbove base members x) (readers_left members x (drop place (dependents_at old x))) old new queued queued' work.nodes work'.nodes
+
+-- As far as the members of an era have come.
+pub record Joining (members : ℕ → List ℕ) (x : ℕ) (old new : Stored) (queued queued' : Queued) (room room' : Room) (work work' : Working) (at : Option ℕ) : Type 0 where
+  pub keeps : KeepsAll old new room room' work work'
+  pub advances : Advances members x (λ base. IsKept base members x)
+      (λ base upper. (has_item (from_here (members (x + 1)) at) upper ≡ true) ⊎ IsResult base members x upper) old new queued queued' work.nodes work'.nodes
+
+-- As far as a whole raising has come.
+pub record Risen (members : ℕ → List ℕ) (id : ℕ) (old new : Stored) (queued queued' : Queued) (room room' : Room) (work work' : Working) : Type 0 where
+  pub keeps : KeepsAll old new room room' work work'
+  pub queue : QueueFollows queued queued' new
+  pub live : (i : ℕ) → has_item work'.nodes i ≡ true → IsSome (node_at old i)
+  pub raising : (rank : ℕ → ℕ) (many top : ℕ) → CanRaise (IsAbove old members) rank (height_at old) (length old.nodes) many top id
+      → (z : ℕ) × Raising (IsAbove old members) rank (height_at old) (height_at new) top id work'.nodes z (nothing old)

@@ -15,7 +15,7 @@ working links = record { nodes = list_at links.lists 0; room = links.items }
 -- The links have one list, in which each node stands once.
 pub record IsWork (links : Linked) (room : ℕ) : Type 0 where
   pub one : length links.lists ≡ 1
-  pub room : room ≡ links.items
+  pub wide : room ≡ links.items
   pub once : AllDifferent (list_at links.lists 0)
   pub few : links.items ≤ 2 ^ 32
   pub small : (i : ℕ) → has_item (list_at links.lists 0) i ≡ true → i < links.items

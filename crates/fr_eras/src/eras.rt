@@ -39,8 +39,6 @@ impl Model for Eras {
 }
 
 impl Eras {
-    ghost use Rattle.fr_eras.specs.Left.{members_left};
-
     /// The era of the program alone, without members.
     pub fn new(alloc: Global) -> Result<Eras, AllocError>
         ensures { IfOk result AreNew }
@@ -87,7 +85,7 @@ impl Eras {
     /// The members of an era in order of creation.
     pub fn in_order(&self, era: EraId) -> Members<'_>
         requires { IsTrue (is_era self.now era.0) }
-        ensures { members_left result ≡ nodes_of (members self.now era.0) }
+        ensures { result ≡ nodes_of (members self.now era.0) }
     {
         Members::of(&self.links, list_of_era(era.0 as usize))
     }
