@@ -162,6 +162,13 @@ module _ (lists : List (List ℕ)) (begun : List Bool) (lives : AreLives (lives_
 grown_same : (old new : List (List ℕ)) (many : ℕ) → new ≡ with_empty old many → (l : ℕ) → list_at new l ≡ list_at old l
 grown_same old new many is l = ap (λ (ls : List (List ℕ)). list_at ls l) is ∙ at_empty old many l
 
+pub set_keeps : (begun after : List Bool) (number : ℕ) → number < length after → ((other : ℕ) → is_set after other ≡ is_set begun other)
+    → (other : ℕ) → is_set begun other ≡ true → is_set (slice_set after number true) other ≡ true
+set_keeps begun after number lt same other is = elim (by_number other number) [
+  | inl e ↦ ap (λ (n : ℕ). is_set (slice_set after number true) n) e ∙ get_or-set_same after number true false lt
+  | inr apart ↦ get_or-set_other after number other true false apart ∙ same other ∙ is
+]
+
 -- lists and flags were added, for an era
 pub grown_eras : (old new : List (List ℕ)) (begun after : List Bool) (room era many : ℕ) → new ≡ with_empty old many → many ≡ era + 1 + 1 → era < 2 ^ 24 + 1
     → length after ≤ max (length begun) (era + 1) → ((other : ℕ) → is_set begun other ≡ true → is_set after other ≡ true)

@@ -1,12 +1,16 @@
 ghost use Rattle.std.specs.Prelude.{◌≡◌, ◌≢◌, ℕ, ◌+◌, ◌<◌, ◌≤◌, [], false, length, max, Some, None, IsSome, IsTrue, IfOk, IfSome, OnErr, OnOk, ◌↔◌, slice_get};
 ghost use Rattle.fr_links.specs.Lists.{has_item};
-ghost use Rattle.fr_eras.specs.Lives.{AreNew, AreSame, BeginsEra, IsAlone, IsMember, JoinsEra, grave, is_era, is_set, members};
+ghost use Rattle.fr_queue.specs.Queue.{KeepsRoom};
+ghost use Rattle.fr_eras.specs.Lives.{AreNew, AreSame, BeginsEra, IsAlone, IsMember, JoinsEra, Killed, LeavesQueue, Under, grave, is_era, is_set, members};
+ghost use Rattle.fr_eras.specs.Heights.{AreEarlier, AreThere};
 ghost use Rattle.fr_eras.specs.Order.{node_at, nodes_of};
 
-use crate::ending::{GRAVE, list_of_era};
+use crate::ending::{GRAVE, end_with_nested, list_of_era};
 use crate::order::Members;
 use crate::work::Work;
 use fr_links::Links;
+use fr_queue::Agenda;
+use fr_store::Store;
 use fr_value::{EraId, NodeId};
 use std::alloc::{AllocError, Global};
 use std::marker::Model;
@@ -80,6 +84,20 @@ impl Eras {
         self.work.make_room(item)?;
         self.links.push_back(list_of_era(era.0 as usize), item);
         Ok(())
+    }
+
+    /// Ends an era with all eras that its members own, at any depth: their members go to the grave and leave the agenda.
+    /// None of them was computed at the latest instant. It takes no memory.
+    pub fn kill<A: Agenda>(&mut self, era: EraId, _store: &Store, agenda: &mut A)
+        requires there { IsTrue (is_era self.old era.0) }
+        requires not_program { era.0 ≢ 0 }
+        requires live { AreThere self.old _store.now }
+        requires earlier { AreEarlier self.old _store.now era.0 }
+        ensures killed { Killed self.old self.new era.0 }
+        ensures queue { LeavesQueue (Under self.old era.0) (A.queued agenda.old) (A.queued agenda.new) }
+        ensures keeps_room { KeepsRoom (A.room agenda.old) (A.room agenda.new) }
+    {
+        end_with_nested(&mut self.links, &mut self.begun, agenda, era.0 as usize);
     }
 
     /// The members of an era in order of creation.

@@ -1,7 +1,8 @@
-use Rattle.std.proofs.Common.{ℕ, List, ◌<◌, length, refl, sym, subst}
+use Rattle.std.proofs.Common.{ℕ, ◌<◌, length, sym, subst}
 use Rattle.fr_links.specs.Lists.{Linked, list_at}
 use Rattle.fr_eras.specs.Kept.{Moving}
 use Rattle.fr_eras.proofs.Moves.{comes_nearer, first_stands_somewhere, goes_on}
+use Rattle.fr_eras.proofs.Places.{none_first}
 use Rattle.fr_eras.proofs.ending.move_members.Goals as goal
 
 pub move_to-requires-clause-item : goal.move_to-requires-clause-item
@@ -19,4 +20,4 @@ loop-node-preserved c =
     (goes_on c.args.links.now.lists c.loop-node.links.lists c.args.list c.in-Some.node c.loop-node.invariant c.in-Some.ensures c.requires.other c.requires.grave)
 
 pub returns-clause-empty : goal.returns-clause-empty
-returns-clause-empty c = let e = c.in_default.ensures in let n = c.in_default.not-Some in let i = c.in_default.is in ?
+returns-clause-empty c = none_first (list_at c.loop-node.links.lists c.args.list) c.in_default.ensures
