@@ -5,7 +5,3 @@ pub mod Lasting
 pub mod Kills
 pub mod Works
 pub mod Raises
-pub mod Only
-pub mod Readers
-pub mod Ranks
-pub mod Rising

@@ -4,7 +4,6 @@
 mod ending;
 mod eras;
 mod order;
-mod raise;
 mod work;
 
 pub use eras::Eras;
