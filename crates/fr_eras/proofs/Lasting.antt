@@ -1,13 +1,12 @@
 -- What lasts where an era begins and where a node joins one.
-use Rattle.std.proofs.Common.{◌≡◌, ◌≢◌, ℕ, zero, suc, ◌+◌, ◌-◌, ◌^◌, ◌<◌, ◌≤◌, List, [], ◌∷◌, ◌++◌, length, ◌⊎◌, inl, inr, max, replicate, None, Bool, true, false, nat_eq, get_or, slice_set, refl, sym, ap, ◌∙◌, subst, arith, length-set, length-append, get_or-set_same, get_or-set_other}
-use Rattle.std.specs.List.{AllClonesOf}
+use Rattle.std.proofs.Common.{◌≡◌, ◌≢◌, ℕ, zero, suc, ◌+◌, ◌-◌, ◌^◌, ◌<◌, ◌≤◌, List, [], ◌∷◌, ◌++◌, length, ◌⊎◌, inl, inr, max, replicate, None, Bool, true, false, nat_eq, slice_set, refl, sym, ap, ◌∙◌, subst, arith, length-set, length-append, get_or-set_same, get_or-set_other}
 use Rattle.std.proofs.lemmas.List.{get_or_past, length-replicate}
 use Rattle.fr_links.specs.Lists.{has_item, list_at, list_of, with_empty, with_last}
 use Rattle.fr_links.specs.Rings.{AllDifferent}
 use Rattle.fr_links.proofs.Has.{by_number, by_truth, differ, different_push, eq_apart, true_false}
-use Rattle.fr_eras.specs.Lives.{Lives, AreNew, AreSame, BeginsEra, IsAlone, JoinsEra, grave, is_era, is_set, members}
+use Rattle.fr_eras.specs.Lives.{AreNew, AreSame, BeginsEra, IsAlone, JoinsEra, is_era, is_set}
 use Rattle.fr_eras.specs.Kept.{AreApart, AreEras, AreLives, HasRoom, NoneCame, lives_of}
-use Rattle.fr_eras.proofs.Lookups.{at_empty, at_last, at_other, has_inside, in_no_list}
+use Rattle.fr_eras.proofs.Lookups.{at_empty, at_last, at_other, in_no_list}
 use Rattle.fr_eras.proofs.Moves.{pushed_is}
 
 by_bound : (i n : ℕ) → (i < n) ⊎ (n ≤ i)

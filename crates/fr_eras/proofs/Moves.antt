@@ -3,9 +3,9 @@ use Rattle.std.proofs.Common.{◌≡◌, ◌≢◌, ℕ, ◌+◌, ◌^◌, ◌<�
 use Rattle.std.proofs.lemmas.List.{append-nil, length-map}
 use Rattle.fr_links.specs.Lists.{has_item, list_at, list_of, others, with_last, without}
 use Rattle.fr_links.specs.Rings.{AllDifferent}
-use Rattle.fr_links.proofs.Has.{by_number, by_truth, differ, different_push, has_append_cases, has_append_left, has_append_right, here, there, true_false}
+use Rattle.fr_links.proofs.Has.{by_number, by_truth, differ, different_push, has_append_cases, has_append_right, here, there, true_false}
 use Rattle.fr_links.proofs.Others.{others_absent, others_split}
-use Rattle.fr_eras.specs.Lives.{Lives, EndsEra, grave, is_era, members}
+use Rattle.fr_eras.specs.Lives.{EndsEra, is_era}
 use Rattle.fr_eras.specs.Kept.{AreApart, AreLives, Moving, NoneCame, lives_of}
 use Rattle.fr_eras.proofs.Lookups.{at_last, at_other, at_without, in_this_list, is_some}
 use Rattle.fr_eras.proofs.Places.{first_of, first_stands}

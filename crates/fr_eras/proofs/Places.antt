@@ -1,8 +1,8 @@
 -- Places in lists of different numbers.
-use Rattle.std.proofs.Common.{◌≡◌, ◌≢◌, ℕ, zero, suc, ◌+◌, ◌<◌, ◌≤◌, List, [], ◌∷◌, ◌++◌, length, ◌⊎◌, inl, inr, Option, Some, None, Bool, true, false, cond, nat_eq, slice_get, refl, sym, ap, ◌∙◌, subst, arith, add-one, append_assoc, length-append}
+use Rattle.std.proofs.Common.{◌≡◌, ◌≢◌, ℕ, zero, suc, ◌+◌, List, [], ◌∷◌, ◌++◌, length, Option, Some, None, Bool, true, false, cond, nat_eq, slice_get, refl, sym, ap, ◌∙◌, subst, arith, append_assoc, length-append}
 use Rattle.fr_links.specs.Lists.{has_item}
 use Rattle.fr_links.specs.Rings.{AllDifferent}
-use Rattle.fr_links.proofs.Has.{by_truth, cons_absent, differ, eq_apart, eq_self, has_append_right, here, or_none, true_false}
+use Rattle.fr_links.proofs.Has.{cons_absent, differ, eq_self, has_append_right, here, or_none}
 use Rattle.fr_links.proofs.Others.{split_at}
 use Rattle.fr_eras.specs.Order.{from_here, from_item}
 

@@ -1,7 +1,7 @@
 -- One lifting keeps a raising, and ranks can be made small.
 use Rattle.std.proofs.Common.{◌≡◌, ◌≢◌, ℕ, zero, suc, ◌+◌, ◌-◌, ◌<◌, ◌≤◌, List, [], ◌∷◌, ◌++◌, length, ◌⊎◌, inl, inr, cond, Bool, true, false, refl, sym, ap, ◌∙◌, subst, arith, length-append}
 use Rattle.fr_links.specs.Lists.{has_item}
-use Rattle.fr_links.proofs.Has.{by_number, by_truth, has_append_left, has_append_right, here, there, true_false}
+use Rattle.fr_links.proofs.Has.{by_number, by_truth, has_append_left, here, there}
 use Rattle.fr_eras.specs.Raise.{AreRaised, CanRaise, Edges, Lifts, Raising, Steps, noted, rise_left, sum_to}
 use Rattle.fr_eras.proofs.Moves.{alone_is, pushed_has, pushed_is}
 

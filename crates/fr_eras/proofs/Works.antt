@@ -1,9 +1,9 @@
 -- The list of work as nodes come and go.
-use Rattle.std.proofs.Common.{◌≡◌, ℕ, ◌+◌, ◌^◌, ◌<◌, ◌≤◌, List, [], ◌∷◌, ◌++◌, length, ◌⊎◌, inl, inr, Option, Some, None, IsSome, Bool, true, false, slice_get, refl, sym, ap, ◌∙◌, subst, arith, length-set}
+use Rattle.std.proofs.Common.{◌≡◌, ℕ, ◌^◌, ◌<◌, ◌≤◌, List, [], ◌∷◌, ◌++◌, length, inl, inr, Option, Some, None, IsSome, true, false, slice_get, sym, ap, ◌∙◌, subst, arith, length-set}
 use Rattle.std.proofs.lemmas.List.{length-map}
 use Rattle.fr_links.specs.Lists.{Linked, has_item, list_at, list_of, others, with_last, without}
 use Rattle.fr_links.specs.Rings.{AllDifferent}
-use Rattle.fr_links.proofs.Has.{by_truth, different_push, here, true_false}
+use Rattle.fr_links.proofs.Has.{by_truth, different_push, here}
 use Rattle.fr_links.proofs.Others.{others_different, others_has, others_split}
 use Rattle.fr_eras.specs.Work.{IsWork}
 use Rattle.fr_eras.proofs.Lookups.{at_last, at_without, has_inside, in_this_list, is_some}

@@ -1,6 +1,6 @@
 -- What the eras keep beside their lists.
-use Rattle.std.specs.Prelude.{◌≡◌, ◌≢◌, ℕ, ◌+◌, ◌^◌, ◌<◌, ◌≤◌, List, [], ◌∷◌, ◌++◌, ◌⊎◌, Option, None, Bool, true, false, length, slice_get, slice_index_or}
-use Rattle.fr_links.specs.Lists.{Linked, has_item, list_at}
+use Rattle.std.specs.Prelude.{◌≡◌, ◌≢◌, ℕ, ◌+◌, ◌^◌, ◌<◌, ◌≤◌, List, [], ◌++◌, ◌⊎◌, Option, None, Bool, true, false, length, slice_get}
+use Rattle.fr_links.specs.Lists.{has_item, list_at}
 use Rattle.fr_links.specs.Rings.{AllDifferent}
 use Rattle.fr_queue.specs.Queue.{Queued}
 use Rattle.fr_eras.specs.Lives.{Lives, members, grave, is_era, Under, EndsWith}

@@ -1,5 +1,5 @@
 -- Which nodes live together, and what each call makes of it.
-use Rattle.std.specs.Prelude.{◌≡◌, ◌≢◌, ℕ, ◌+◌, List, [], ◌∷◌, ◌++◌, ◌⊎◌, Option, Some, None, Bool, true, false, nat_eq, slice_index_or}
+use Rattle.std.specs.Prelude.{◌≡◌, ◌≢◌, ℕ, ◌+◌, List, [], ◌∷◌, ◌++◌, ◌⊎◌, None, Bool, true, false, nat_eq, slice_index_or}
 use Rattle.fr_links.specs.Lists.{has_item, list_at}
 use Rattle.fr_queue.specs.Queue.{Queued}
 

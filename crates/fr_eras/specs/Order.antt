@@ -2,7 +2,6 @@
 use Rattle.std.specs.Prelude.{ℕ, List, [], ◌∷◌, map, Option, Some, None, cond, nat_eq}
 use Rattle.std.specs.Option.{option_map}
 use Rattle.fr_value.specs.declared.ids.NodeId.{NodeId}
-use Rattle.fr_links.specs.Lists.{list_at}
 
 -- The items of a list from one on.
 abbrev pub from_item : List ℕ → ℕ → List ℕ

@@ -1,4 +1,4 @@
-use Rattle.std.proofs.Common.{ℕ, List, [], ◌≡◌, subst}
+use Rattle.std.proofs.Common.{ℕ, [], ◌≡◌, subst}
 use Rattle.fr_links.specs.Lists.{list_at}
 use Rattle.fr_eras.specs.Kept.{Moving}
 use Rattle.fr_eras.proofs.Moves.{era_came, era_ends, era_lives}

@@ -1,4 +1,4 @@
-use Rattle.std.proofs.Common.{◌≡◌, ℕ, ◌+◌, ◌-◌, ◌<◌, ◌^◌, Option, Some, None, sym, ap, ◌∙◌, subst, arith, slice_get}
+use Rattle.std.proofs.Common.{ℕ, ◌-◌, ◌<◌, ◌^◌, Option, sym, ap, ◌∙◌, subst, arith, slice_get}
 use Rattle.fr_links.specs.Lists.{list_at}
 use Rattle.fr_eras.specs.Kept.{Killing, lives_of}
 use Rattle.fr_eras.proofs.Kills.{killed, killing_begins, killing_goes_on, leaves, nearer, node_small, stands_now}

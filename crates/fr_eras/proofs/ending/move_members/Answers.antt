@@ -1,4 +1,4 @@
-use Rattle.std.proofs.Common.{ℕ, ◌<◌, length, sym, subst}
+use Rattle.std.proofs.Common.{◌<◌, length, sym, subst}
 use Rattle.fr_links.specs.Lists.{Linked, list_at}
 use Rattle.fr_eras.specs.Kept.{Moving}
 use Rattle.fr_eras.proofs.Moves.{comes_nearer, first_stands_somewhere, goes_on}

@@ -1,4 +1,4 @@
-use Rattle.std.proofs.Common.{◌≡◌, ℕ, ◌+◌, ◌<◌, ◌≤◌, ◌^◌, max, length, true, slice_set, arith, subst, sym, length-set, ◌∙◌}
+use Rattle.std.proofs.Common.{ℕ, ◌+◌, ◌<◌, ◌≤◌, ◌^◌, max, length, true, slice_set, arith, subst, sym, length-set, ◌∙◌}
 use Rattle.fr_eras.proofs.Lasting.{grown_eras, set_keeps}
 use Rattle.fr_eras.proofs.eras.Eras.begin.Goals as goal
 

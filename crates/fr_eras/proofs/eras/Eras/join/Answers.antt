@@ -1,4 +1,4 @@
-use Rattle.std.proofs.Common.{◌≡◌, ℕ, ◌+◌, ◌<◌, ◌^◌, List, Bool, true, false, sym, ap, ◌∙◌, subst, arith}
+use Rattle.std.proofs.Common.{◌≡◌, true, sym, subst, arith}
 use Rattle.fr_links.specs.Lists.{Linked}
 use Rattle.fr_eras.specs.Lives.{IsAlone, Lives, is_era}
 use Rattle.fr_eras.specs.Kept.{AreEras, lives_of}

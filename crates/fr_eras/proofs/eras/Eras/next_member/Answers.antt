@@ -1,4 +1,4 @@
-use Rattle.std.proofs.Common.{◌≡◌, ℕ, ◌+◌, ◌<◌, ◌^◌, Some, true, refl, sym, subst, arith}
+use Rattle.std.proofs.Common.{◌≡◌, ◌+◌, ◌<◌, ◌^◌, Some, true, refl, sym, subst, arith}
 use Rattle.fr_links.specs.Lists.{has_item, list_at}
 use Rattle.fr_eras.specs.Lives.{Lives, members}
 use Rattle.fr_eras.proofs.Moves.{stands_somewhere}

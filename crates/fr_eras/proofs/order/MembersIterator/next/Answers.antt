@@ -1,4 +1,4 @@
-use Rattle.std.proofs.Common.{◌≡◌, ℕ, ◌∷◌, ◌<◌, ◌^◌, length, sym, ap, ◌∙◌, arith, rules}
+use Rattle.std.proofs.Common.{◌<◌, ◌^◌, length, sym, ap, ◌∙◌, arith, rules}
 use Rattle.fr_links.specs.Lists.{list_at}
 use Rattle.fr_eras.specs.Order.{from_here, nodes_of}
 use Rattle.fr_eras.proofs.Moves.{stands_somewhere}

@@ -1,4 +1,4 @@
-use Rattle.std.proofs.Common.{◌≡◌, ◌<◌, ℕ, Option, None, rules, refl, sym, ap, ◌∙◌, subst}
+use Rattle.std.proofs.Common.{◌≡◌, ◌<◌, ℕ, None, rules, sym, ap, ◌∙◌, subst}
 use Rattle.fr_links.specs.Lists.{list_of}
 use Rattle.fr_eras.specs.Work.{Working}
 use Rattle.fr_eras.proofs.Works.{no_item, noted_work}

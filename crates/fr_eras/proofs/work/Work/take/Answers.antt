@@ -1,4 +1,4 @@
-use Rattle.std.proofs.Common.{ℕ, List, ◌∷◌, sym, ap, ◌∙◌}
+use Rattle.std.proofs.Common.{◌∷◌, sym, ap, ◌∙◌}
 use Rattle.fr_links.specs.Lists.{Linked, list_at}
 use Rattle.fr_eras.specs.Work.{Working}
 use Rattle.fr_eras.proofs.Works.{taken_rest, taken_small, taken_stands, taken_work}
