@@ -96,9 +96,3 @@ pub record Killed (old new : Lives) (era : ℕ) : Type 0 where
 pub record LeavesQueue (gone : ℕ → Type 0) (old new : Queued) : Type 0 where
   pub out : (node : ℕ) → gone node → new node ≡ None
   pub others : (node : ℕ) → (gone node → ⊥) → new node ≡ old node
-
--- The grave is empty now, and the eras are as before.
-pub record Buries (old new : Lives) : Type 0 where
-  pub each : (era : ℕ) → members new era ≡ members old era
-  pub eras : (era : ℕ) → is_era new era ≡ is_era old era
-  pub empty : grave new ≡ []

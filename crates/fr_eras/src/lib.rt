@@ -6,5 +6,5 @@ mod eras;
 mod order;
 mod work;
 
-pub use eras::Eras;
+pub use eras::{Eras, MOST_OWNERS};
 pub use order::Members;
