@@ -1,0 +1,6 @@
+pub mod Lives
+pub mod Kept
+pub mod Order
+pub mod Left
+pub mod Raise
+pub mod Work

@@ -1,0 +1,10 @@
+//! Eras of the graph of signals: which nodes live together and end together.
+#![tactic(auto)]
+
+mod ending;
+mod eras;
+mod order;
+mod work;
+
+pub use eras::{Eras, MOST_OWNERS};
+pub use order::Members;
