@@ -112,15 +112,15 @@ module _ (body other : List Seen → Done) where
   turns_value m same t acc (vs ∷ rest) a =
       ap (λ v. (turns body (t + 1) v rest).value) (same (acc ∷ vs) (ap suc a.0)) ∙ turns_value m same (t + 1) (other (acc ∷ vs)).value rest a.1
 
-none_left : (a b : First) → option_or a b ≡ None → a ≡ None
+pub none_left : (a b : First) → option_or a b ≡ None → a ≡ None
 none_left None b h = refl
 none_left (Some f) b h = cc
 
-none_right : (a b : First) → option_or a b ≡ None → b ≡ None
+pub none_right : (a b : First) → option_or a b ≡ None → b ≡ None
 none_right None b h = h
 none_right (Some f) b h = cc
 
-none_under : (i : ℕ) (f : First) → under i f ≡ None → f ≡ None
+pub none_under : (i : ℕ) (f : First) → under i f ≡ None → f ≡ None
 none_under i None h = refl
 none_under i (Some f) h = cc
 

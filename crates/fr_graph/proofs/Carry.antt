@@ -120,7 +120,7 @@ module _ (old new : Graph) (p : Plan) (known : ℕ → Type 0) (before : ℕ →
     born_call (Some body) qs m st = subst (Trees body qs.parts qs.left) (sym (child_none m)) (ih body y qs.parts qs.left born st)
 
     born_cell : (form : StateForm) (ms : List ℕ) → new.live (first ms) ≡ true → new.era (first ms) ≡ y → CellKeeps q form ms kept.Nothing
-    born_cell form ms lv er = λ kn. go.cell_new (first ms) (born (first ms) lv er) lv ∙ sym (cell_none (cell_kind form))
+    born_cell form ms lv er = go.cell_new (first ms) (born (first ms) lv er) lv ∙ sym (cell_none (cell_kind form))
 
     born_work : (o : Operator) (ps : List Part) (ms : List ℕ) (b : Bool) → is_plain (operates o) ≡ b → WorkStands new p y n (operates o) ps ms → Unless b (CellKeeps q (of_operator o) ms kept.Nothing)
     born_work o ps ms true e st = tt
@@ -243,7 +243,7 @@ module _ (old new : Graph) (p : Plan) (known : ℕ → Type 0) (before : ℕ →
       carry_call (Some body) qs k s0 s1 kp = ih body x qs.parts qs.left k s0 s1 kp
 
       carry_cell : (form : StateForm) (ms : List ℕ) (k : Kept) → old.live (first ms) ≡ true → new.live (first ms) ≡ true → CellKeeps asked form ms k → CellKeeps q form ms k
-      carry_cell form ms k v0 v1 kp = λ kn. go.cell (first ms) v0 v1 ∙ kp tt
+      carry_cell form ms k v0 v1 kp = go.cell (first ms) v0 v1 ∙ kp
 
       carry_work : (o : Operator) (ps : List Part) (ms : List ℕ) (k : Kept) (b : Bool) → is_plain (operates o) ≡ b → WorkStands old p x n (operates o) ps ms → WorkStands new p x n (operates o) ps ms
           → Unless b (CellKeeps asked (of_operator o) ms k) → Unless b (CellKeeps q (of_operator o) ms k)

@@ -250,7 +250,7 @@ module _ (g : Graph) (p : Plan) (pr : Program) (plan : IsPlanOf pr p) (sources :
         let sound = outer_sound t (length env) es s.inside in
         let have = have_all es 0 ms inner sound st.0 kp.0 in
         let parts_good = all_errless es 0 ms inner sound st.0 kp.0 in
-        let clean = operator_clean o qs.parts ps.values qs.left (form_cell (of_operator o) k) (ap (operator_takes o) (all_length walk env es ms) ∙ s.parts) st.1 have (λ e. subst (λ b. Unless b (CellKeeps old (of_operator o) qs.left k)) e kp.1) in
+        let clean = operator_clean o qs.parts ps.values qs.left (form_cell (of_operator o) k) (ap (operator_takes o) (all_length walk env es ms) ∙ s.parts) st.1 have (λ e kn. subst (λ b. Unless b (CellKeeps old (of_operator o) qs.left k)) e kp.1) in
         opens (core.Operator o (map f es)) (Core-F.Operator o (map f es)) k (outs-Operator o (map f es)) (line_errless ps _ parts_good.0 clean)
     shape_errless (Low-F.Handler h es id ss) ms k s st kp =
         let qs = place_all walk env es ms in
@@ -267,7 +267,7 @@ module _ (g : Graph) (p : Plan) (pr : Program) (plan : IsPlanOf pr p) (sources :
         let front : take (handler_parts h) (ps.values ++ others) ≡ ps.values = ap (λ m. take m (ps.values ++ others)) (sym count) ∙ take-append_seam ps.values others in
         let behind : drop (handler_parts h) (ps.values ++ others) ≡ others = ap (λ m. drop m (ps.values ++ others)) (sym count) ∙ drop-append_seam ps.values others in
         let clean = work_clean g everything t sources before closed settled p x n (handles h id.0) (qs.parts ++ slot_parts p env ss) (ps.values ++ others) qs.left cell refl st.2
-        (have_append g everything qs.parts ps.values (slot_parts p env ss) others have slots) (λ e. kp.1) tt in
+        (have_append g everything qs.parts ps.values (slot_parts p env ss) others have slots) (λ e kn. kp.1) tt in
         let clean' = subst (λ xs. IsClean (state_now (of_handler h) cell ps.values (kernel_call t n id.0 xs))) behind
         (subst (λ xs. IsClean (state_now (of_handler h) cell xs (kernel_call t n id.0 (drop (handler_parts h) (ps.values ++ others))))) front clean) in
         let line = handler_clean h cell ps.values (kernel_call t n id.0 others) (handler ev vs (length (map f es)) body)
@@ -314,7 +314,7 @@ module _ (g : Graph) (p : Plan) (pr : Program) (plan : IsPlanOf pr p) (sources :
         let last = (walk body inside (rest i.left)).part in
         let rule : IsWorked g t (before c) c feeds (i.part ∷ []) = rule_on g everything t sources before closed settled x n (works feeds) (i.part ∷ []) (Some last) i.left tt st.2 in
         let same : work_line t (g.level c) feeds (before c) (part_value g i.part ∷ []) ≡ work_line t n feeds cell (d.value ∷ [])
-        = ap (λ o. work_line t (g.level c) feeds o (part_value g i.part ∷ [])) (kp.2 tt) ∙ ap (λ v. work_line t (g.level c) feeds cell (v ∷ [])) (r (each_known i.part)) in
+        = ap (λ o. work_line t (g.level c) feeds o (part_value g i.part ∷ [])) kp.2 ∙ ap (λ v. work_line t (g.level c) feeds cell (v ∷ [])) (r (each_known i.part)) in
         let clean = subst IsClean same rule.clean in
         let name : g.value c ≡ x0 = rule.value ∙ ap (λ l. l.value) same in
         let wide : length inside ≡ length env + 1 = length-append env (signal c ∷ []) in

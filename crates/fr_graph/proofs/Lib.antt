@@ -8,4 +8,6 @@ mod Cells
 mod Trees
 mod Clean
 mod Carry
+mod Front
 pub mod Items
+mod Examples

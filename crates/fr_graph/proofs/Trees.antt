@@ -381,11 +381,11 @@ module _ (g : Graph) (p : Plan) (pr : Program) (plan : IsPlanOf pr p) (sources :
       where
         known_cell : (b : Bool) (ns : List ℕ) (form : StateForm) (k : Kept) → Unless b (CellKeeps old form ns k) → Unless b (before (first ns) ≡ form_cell form k)
         known_cell true ns form k h = tt
-        known_cell false ns form k h = h tt
+        known_cell false ns form k h = h
 
         new_cell : (b : Bool) (ns : List ℕ) (form : StateForm) (tree : Kept) (c : Option Cell) → c ≡ form_cell form tree → Unless b (g.cell (first ns) ≡ c) → Unless b (CellKeeps new form ns tree)
         new_cell true ns form tree c e h = tt
-        new_cell false ns form tree c e h = λ kn. h ∙ e
+        new_cell false ns form tree c e h = h ∙ e
     shape_keeps (Low-F.Handler h es id ss) ms k s st kp =
         let qs = place_all walk env es ms in
         let inner = behind_cell (of_handler h) k in
@@ -402,7 +402,7 @@ module _ (g : Graph) (p : Plan) (pr : Program) (plan : IsPlanOf pr p) (sources :
         let call = handler ev vs (length (map f es)) body in
         let means_here = λ (args : List Seen) (e : length args ≡ handler_binds h). (kernel_means g everything p pr plan sources before closed settled eras means n few (agrees_at n below) x env vs en n id.0 (handler_binds h) ss args kept.Nothing below s.fits e).value in
         let both = have_append g everything qs.parts ps.values (slot_parts p env ss) others have slots in
-        let good = node_good (handles h id.0) (qs.parts ++ slot_parts p env ss) (ps.values ++ others) qs.left cell refl st.2 both (kp.1 tt) in
+        let good = node_good (handles h id.0) (qs.parts ++ slot_parts p env ss) (ps.values ++ others) qs.left cell refl st.2 both kp.1 in
         let value : (state_now (of_handler h) cell ps.values call).value ≡ (work_line t n (handles h id.0) cell (ps.values ++ others)).value
         = sym (ap (λ xs. (state_now (of_handler h) cell xs (kernel_call t n id.0 (drop (handler_parts h) (ps.values ++ others)))).value) front
         ∙ ap (λ xs. (state_now (of_handler h) cell ps.values (kernel_call t n id.0 xs)).value) behind ∙ handler_value h cell ps.values (kernel_call t n id.0 others) call means_here) in
@@ -411,9 +411,9 @@ module _ (g : Graph) (p : Plan) (pr : Program) (plan : IsPlanOf pr p) (sources :
         ∙ ap (λ xs. (state_now (of_handler h) cell ps.values (kernel_call t n id.0 xs)).next) behind ∙ handler_next h cell ps.values (kernel_call t n id.0 others) call means_here in
         let line = state_now (of_handler h) cell ps.values call in
         let trees = form_keeps (of_handler h) es ms inner line.next sound st.0 kp.0 (handler_fits h cell ps.values call good.0 (value ∙ good.1)) in
-        let has = node_cell (handles h id.0) (qs.parts ++ slot_parts p env ss) (ps.values ++ others) qs.left cell refl refl st.2 both (kp.1 tt) in
+        let has = node_cell (handles h id.0) (qs.parts ++ slot_parts p env ss) (ps.values ++ others) qs.left cell refl refl st.2 both kp.1 in
         subst (λ u. AllKeep walk News env 0 es ms (behind_cell (of_handler h) u) × CellKeeps new (of_handler h) qs.left u) (opens (core.Handler h (map f es) body) (Core-F.Handler h (map f es) body) k (outs-Handler h (map f es) body))
-        (trees.0, λ kn. has ∙ next ∙ trees.1)
+        (trees.0, has ∙ next ∙ trees.1)
     shape_keeps (Low-F.Loop l es id ss) ms k s st kp =
         let ks = (parts ev vs k 0 (map f es)).kepts in
         let body = kernel_expr t.kernels id.0 in
@@ -431,7 +431,7 @@ module _ (g : Graph) (p : Plan) (pr : Program) (plan : IsPlanOf pr p) (sources :
         let x0 = fed cell d.value in
         let last = (walk body inside (rest i.left)).part in
         let rule : IsWorked g t (before c) c feeds (i.part ∷ []) = rule_on g everything t sources before closed settled x n (works feeds) (i.part ∷ []) (Some last) i.left tt st.2 in
-        let name : g.value c ≡ x0 = rule.value ∙ ap (λ o. fed o (part_value g i.part)) (kp.2 tt) ∙ ap (fed cell) (r (each_known i.part)) in
+        let name : g.value c ≡ x0 = rule.value ∙ ap (λ o. fed o (part_value g i.part)) kp.2 ∙ ap (fed cell) (r (each_known i.part)) in
         let wide : length inside ≡ length env + 1 = length-append env (signal c ∷ []) in
         let sound1 = subst (λ m. Sound t m body) (sym wide) (s.inside 1 (1, body) refl) in
         let b = ev (f body) (vs ++ x0 ∷ []) (child inner 1) in
@@ -448,7 +448,7 @@ module _ (g : Graph) (p : Plan) (pr : Program) (plan : IsPlanOf pr p) (sources :
         (ap (λ o. with_cell o (kept.Group ks)) (sym next) ∙ opens (core.Feedback (f init) (f body)) (Core-F.Feedback (f init) (f body)) k (outs-Feedback (f init) (f body))) (
           subst (News init env ms) (sym (ap (λ u. child u 0) back.tree ∙ child_group ks 0)) here,
           subst (News body inside (rest i.left)) (sym (ap (λ u. child u 1) back.tree ∙ child_group ks 1)) there,
-          λ kn. latched.kept ∙ sym back.cell,
+          latched.kept ∙ sym back.cell,
         )
       where
         zero_more : (m : ℕ) → m + 0 ≡ m

@@ -198,7 +198,7 @@ module _ (g : Graph) (known : ℕ → Type 0) (p : Plan) (pr : Program) (plan : 
         let ps = parts ev vs before_parts 0 (map f es) in
         let have = all_on es 0 ms before_parts (outer_sound t (length env) es s.inside) st.0 kp.0 in
         work_value g known t sources before closed settled p x n (operates o) qs.parts ps.values qs.left (form_cell (of_operator o) k) refl st.1 have
-        (λ e. subst (λ b. Unless b (CellKeeps q (of_operator o) qs.left k)) e kp.1) kn
+        (λ e kn. subst (λ b. Unless b (CellKeeps q (of_operator o) qs.left k)) e kp.1) kn
         ∙ operator_value o (form_cell (of_operator o) k) ps.values
         ∙ opens (core.Operator o (map f es)) (Core-F.Operator o (map f es)) k (outs-Operator o (map f es))
     shape_on (Low-F.Handler h es id ss) ms k s st kp = λ kn.
@@ -214,7 +214,7 @@ module _ (g : Graph) (known : ℕ → Type 0) (p : Plan) (pr : Program) (plan : 
         let front : take (handler_parts h) (ps.values ++ others) ≡ ps.values = ap (λ m. take m (ps.values ++ others)) (sym count) ∙ take-append_seam ps.values others in
         let behind : drop (handler_parts h) (ps.values ++ others) ≡ others = ap (λ m. drop m (ps.values ++ others)) (sym count) ∙ drop-append_seam ps.values others in
         work_value g known t sources before closed settled p x n (handles h id.0) (qs.parts ++ slot_parts p env ss) (ps.values ++ others) qs.left cell refl st.2
-        (have_append g known qs.parts ps.values (slot_parts p env ss) others have slots) (λ e. kp.1) kn
+        (have_append g known qs.parts ps.values (slot_parts p env ss) others have slots) (λ e kn. kp.1) kn
         ∙ ap (λ xs. (state_now (of_handler h) cell xs (kernel_call t n id.0 (drop (handler_parts h) (ps.values ++ others)))).value) front
         ∙ ap (λ xs. (state_now (of_handler h) cell ps.values (kernel_call t n id.0 xs)).value) behind
         ∙ handler_value h cell ps.values (kernel_call t n id.0 others) (handler ev vs (length (map f es)) body)
@@ -253,7 +253,7 @@ module _ (g : Graph) (known : ℕ → Type 0) (p : Plan) (pr : Program) (plan : 
         let name : known c → g.value c ≡ x0 = λ kc.
         let rule : IsWorked g t (before c) c feeds (i.part ∷ []) = rule_on g known t sources before closed settled x n (works feeds) (i.part ∷ []) (Some (walk body inside (rest i.left)).part) i.left kc st.2 in
         let ki = (inputs_on g known t sources before closed settled x n (works feeds) (i.part ∷ []) (Some (walk body inside (rest i.left)).part) i.left kc st.2).0 in
-        rule.value ∙ ap (λ o. fed o (part_value g i.part)) (kp.2 kc) ∙ ap (fed (form_cell of_feedback k)) (r ki) in
+        rule.value ∙ ap (λ o. fed o (part_value g i.part)) kp.2 ∙ ap (fed (form_cell of_feedback k)) (r ki) in
         let wide : length inside ≡ length env + 1 = length-append env (signal c ∷ []) in
         let sound1 = subst (λ m. Sound t m body) (sym wide) (s.inside 1 (1, body) refl) in
         let b = ev (f body) (vs ++ x0 ∷ []) (child before_parts 1) in

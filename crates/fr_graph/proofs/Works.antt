@@ -64,7 +64,7 @@ stands_next g p x n w ps ms plain st = subst (λ b. Either (b && all_steady ps) 
 
 module _ (g : Graph) (known : ℕ → Type 0) where
   -- a work's line by the values of its inputs is that by the values of all its parts
-  input_line : (t : Kernels) (n : ℕ) (w : Work) (c : Option Cell) (ps : List Part) (vs : List Seen) → Have g known ps vs → AllKnown known (inputs_of w ps)
+  pub input_line : (t : Kernels) (n : ℕ) (w : Work) (c : Option Cell) (ps : List Part) (vs : List Seen) → Have g known ps vs → AllKnown known (inputs_of w ps)
       → work_line t n w c (part_values g (inputs_of w ps)) ≡ work_line t n w c vs
   input_line t n (operates operator.Delay) c [] [] h kn = refl
   input_line t n (operates operator.Delay) c [] (v ∷ vs) h kn = absurd h

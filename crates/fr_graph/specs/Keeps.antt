@@ -23,7 +23,7 @@ abbrev pub AllKeep : Walk → Keeping → List Part → ℕ → List Low → Lis
 AllKeep walk K env i [] ms k = Unit {0}
 AllKeep walk K env i (e ∷ es) ms k = K e env ms (child k i) × AllKeep walk K env (i + 1) es (walk e env ms).left k
 
--- what is asked of the cells, and of each watch: which nodes are known, the cell of a node, and what is to hold of a watch and the tree of its choice
+-- what is asked: the cell of each node, and of each watch that is known what is to hold of it and the tree of its choice
 pub record Asked : Type 1 where
   pub known : ℕ → Type 0
   pub cell : ℕ → Option Cell
@@ -42,9 +42,9 @@ abbrev pub CallKeeps : Keeping → Option Low → AllPlaced → Kept → Type 0
 CallKeeps K None q k = Unit {0}
 CallKeeps K (Some body) q k = K body q.parts q.left k
 
--- a known node has the cell of its form in the tree
+-- the next node has the cell of its form in the tree
 abbrev pub CellKeeps : Asked → StateForm → List ℕ → Kept → Type 0
-CellKeeps q form ms k = q.known (first ms) → q.cell (first ms) ≡ form_cell form k
+CellKeeps q form ms k = q.cell (first ms) ≡ form_cell form k
 
 -- one case for each shape
 abbrev pub ShapeKeeps : Graph → Plan → Asked → Walk → Keeping → List Part → List ℕ → Kept → Low-F Low → Type 0
@@ -71,7 +71,7 @@ ShapeKeeps g p q walk K env ms k (Low-F.Feedback init body) =
     × CellKeeps q of_feedback i.left k
 ShapeKeeps g p q walk K env ms k (Low-F.Collapse id ss) = Unit {0}
 
--- the tree has the cells that the known nodes of an expression have, eras of known watches too; of each such watch the rest is asked
+-- the tree has the cells that the nodes of an expression have, eras of known watches too; of each such watch the rest is asked
 unfoldable pub Keeps : Graph → Plan → Asked → ℕ → Keeping
 Keeps g p q zero e env ms k = Unit {0}
 Keeps g p q (suc n) e env ms k = ShapeKeeps g p q (place p n) (Keeps g p q n) env ms k (out-Low e)

@@ -6,3 +6,4 @@ pub mod Known
 pub mod Sound
 pub mod Goes
 pub mod Items
+pub mod Front
