@@ -1,5 +1,5 @@
 -- The tree for which a graph stood is what its nodes had before the next instant.
-use Rattle.std.proofs.Common.{◌≡◌, ◌≢◌, ◌+◌, ◌&&◌, ℕ, zero, suc, Bool, true, false, List, [], ◌∷◌, ◌++◌, length, slice_get, unwrap_or, refl, ap, sym, ◌∙◌, subst, Option, Some, None, Result, Ok, Err}
+use Rattle.std.proofs.Common.{◌≡◌, ◌≢◌, ◌+◌, ℕ, zero, suc, Bool, true, false, List, [], ◌∷◌, ◌++◌, length, slice_get, refl, ap, sym, ◌∙◌, subst, Option, Some, None, Result, Ok, Err}
 use Rattle.std.proofs.lemmas.Bool.{false≢true}
 use Rattle.std.specs.Option.{option_map}
 use Rattle.fr_value.specs.declared.now.Bad.{Bad}
@@ -15,10 +15,10 @@ use Rattle.fr_core.specs.declared.lowered.Low.TheOpen.{Low-F}
 use Rattle.fr_meaning.specs.Words.{test_of}
 use Rattle.fr_meaning.specs.Cells.{Cell, datum, payload, CellKind, keeps_none, keeps_datum, keeps_payload, child, child_at, datum_cell, datum_cell_at, payload_cell, payload_cell_at, behind_datum, behind_datum_at, behind_payload, behind_payload_at, cell_in, behind, under_key, under_key_at}
 use Rattle.fr_meaning.specs.States.{StateForm, of_operator, of_handler, of_feedback, cell_kind}
-use Rattle.fr_meaning.specs.Evaluation.{form_cell, behind_cell}
-use Rattle.fr_graph.specs.Graph.{Part, steady, signal, Work, operates, handles, feeds, works, watch, Graph, is_plain}
+use Rattle.fr_meaning.specs.Evaluation.{behind_cell}
+use Rattle.fr_graph.specs.Graph.{Part, steady, signal, operates, handles, Graph, is_plain}
 use Rattle.fr_graph.specs.Walk.{Plan, first, rest, Walk, AllPlaced, place_all, low_body, place}
-use Rattle.fr_graph.specs.Wired.{IsNext, AreNext, Unless, WorkStands, inputs_of, later_of, AllStand, Chosen, SwitchStands, CallStands, ShapeStands, Wired, EraStands}
+use Rattle.fr_graph.specs.Wired.{Unless, WorkStands, AllStand, Chosen, SwitchStands, CallStands, ShapeStands, Wired, EraStands}
 use Rattle.fr_graph.specs.Keeps.{Asked, AllKeep, SwitchKeeps, CallKeeps, CellKeeps, ShapeKeeps, Keeps, asks_nothing, everything, switch_key, switch_key_at, HasKey, StandsFor}
 use Rattle.fr_graph.specs.Known.{ErasStandOn}
 use Rattle.fr_graph.specs.Goes.{Goes}

@@ -1,5 +1,5 @@
 -- The cells of lines that have a value, and the trees that they are kept in.
-use Rattle.std.proofs.Common.{◌≡◌, ℕ, Bool, true, false, List, [], ◌∷◌, refl, ap, sym, ◌∙◌, subst, Option, Some, None, Result, Ok, Err, unwrap_or, slice_get}
+use Rattle.std.proofs.Common.{◌≡◌, ℕ, Bool, true, false, List, [], ◌∷◌, refl, ap, sym, subst, Option, Some, None, Result, Ok, Err, unwrap_or, slice_get}
 use Rattle.std.specs.Option.{option_map}
 use Rattle.std.proofs.lemmas.Bool.{false≢true}
 use Rattle.fr_value.specs.declared.now.Bad.{Bad}
@@ -11,12 +11,12 @@ use Rattle.fr_core.specs.declared.core_form.Operator.TheVariants as operator
 use Rattle.fr_core.specs.declared.core_form.Handler.{Handler}
 use Rattle.fr_core.specs.declared.core_form.Handler.TheVariants as handler
 use Rattle.fr_core.specs.declared.kept.Key.TheVariants as key
-use Rattle.fr_core.specs.declared.kept.Kept.{Kept, out-Kept}
+use Rattle.fr_core.specs.declared.kept.Kept.{Kept}
 use Rattle.fr_core.specs.declared.kept.Kept.TheVariants as kept
 use Rattle.fr_core.specs.declared.kept.Kept.TheVariants.{outs-Group, outs-Datum, outs-Payload, outs-Switch}
 use Rattle.fr_meaning.specs.Words.{Seen, plain, occurs, part, event_of, datum_in, test_of}
 use Rattle.fr_meaning.specs.Cells.{Cell, datum, payload, CellKind, keeps_none, keeps_datum, keeps_payload, child, child_at, datum_cell, datum_cell_at, payload_cell, payload_cell_at, behind_datum, behind_datum_at, behind_payload, behind_payload_at, cell_in, behind, with_cell, under_key, under_key_at}
-use Rattle.fr_meaning.specs.States.{Line, gives, keeps, stays, Call, Called, of_operator, of_handler, cell_kind, line_unless_refused, base_of, leftmost, change, is_spent, once_line, begun_unless_refused, asks_payload, asks_both, handler_line, handler_end, finished, no_call, state_now}
+use Rattle.fr_meaning.specs.States.{Line, gives, keeps, stays, Call, of_operator, of_handler, cell_kind, line_unless_refused, base_of, leftmost, is_spent, once_line, begun_unless_refused, asks_payload, asks_both, handler_end, finished, no_call, state_now}
 use Rattle.fr_graph.specs.Graph.{operates, is_late}
 use Rattle.fr_graph.specs.Keeps.{switch_key, switch_key_at}
 

@@ -6,7 +6,7 @@ use Rattle.std.proofs.lemmas.List.{length-map, length-append}
 use Rattle.std.proofs.Math.Seq.{take-append_seam, drop-append_seam}
 use Rattle.fr_value.specs.declared.now.Now.{Now}
 use Rattle.fr_value.specs.declared.now.Bad.{Bad}
-use Rattle.fr_core.specs.Shapes.{outer, operator_takes, handler_parts, handler_binds, loop_binds}
+use Rattle.fr_core.specs.Shapes.{operator_takes, handler_parts, handler_binds, loop_binds}
 use Rattle.fr_core.specs.declared.core_form.Core.{Core, out-Core}
 use Rattle.fr_core.specs.declared.core_form.Core.TheOpen.{Core-F}
 use Rattle.fr_core.specs.declared.core_form.Core.TheVariants as core
@@ -20,21 +20,21 @@ use Rattle.fr_core.specs.declared.kept.Kept.TheVariants as kept
 use Rattle.fr_core.specs.declared.lowered.Low.{Low, out-Low, map-Low}
 use Rattle.fr_core.specs.declared.lowered.Low.TheOpen.{Low-F}
 use Rattle.fr_core.specs.declared.program.Program.{Program}
-use Rattle.fr_meaning.specs.Words.{Seen, Env, First, Done, under, own, plain, found, part, on_ok, test_of}
+use Rattle.fr_meaning.specs.Words.{Seen, Env, Done, under, own, part, on_ok, test_of}
 use Rattle.fr_meaning.specs.Cells.{Cell, child, under_key}
 use Rattle.fr_meaning.specs.States.{Line, of_operator, of_handler, of_feedback, fed, base_of, refusal_in, refused_by, no_call, state_now, beside, state_next, early_value}
 use Rattle.fr_meaning.specs.Evaluation.{World, world_of, Ev, Parts, parts, join_part, no_parts, source_seen, chosen_by, switch_done, call_done, body_for, handler, body_with, rounds, all_turns, refusal_first, line_done, form_cell, behind_cell, layer, eval_to}
 use Rattle.fr_meaning.proofs.Levels.{evaluates}
 use Rattle.fr_kernel.specs.Kernels.{Kernels, slot_seen}
 use Rattle.fr_kernel.specs.Erasure.{erase, erase_step, kernel_expr}
-use Rattle.fr_graph.specs.Graph.{Part, steady, signal, Work, operates, handles, loops, runs, feeds, Kind, source, works, watch, result, Graph, part_value, kernel_run, kernel_call, IsClean, operator_early, work_line, is_plain, is_late}
+use Rattle.fr_graph.specs.Graph.{Part, steady, signal, operates, handles, loops, runs, feeds, Kind, works, watch, Graph, part_value, kernel_run, kernel_call, IsClean, operator_early, work_line, is_plain, is_late}
 use Rattle.fr_graph.specs.Walk.{Plan, first, rest, Walk, AllPlaced, place_all, slot_parts, low_body, place}
-use Rattle.fr_graph.specs.Wired.{IsNext, Unless, WorkStands, IsSource, AllStand, Chosen, SwitchStands, CallStands, ShapeStands, Wired, EraStands}
+use Rattle.fr_graph.specs.Wired.{Unless, WorkStands, AllStand, Chosen, SwitchStands, CallStands, ShapeStands, Wired, EraStands}
 use Rattle.fr_graph.specs.Keeps.{Asked, AllKeep, SwitchKeeps, CallKeeps, CellKeeps, ShapeKeeps, Keeps, asks_nothing, everything}
 use Rattle.fr_graph.specs.Known.{IsClosed, IsKnown, Have, IsWatched, IsFed, IsWorked, Rule, SettledOn, ErasStandOn, latch, HasEnded}
 use Rattle.fr_graph.specs.Sound.{Sound, IsPlanOf, KernelsMean}
 use Rattle.fr_graph.proofs.Parts.{have_append, have_length}
-use Rattle.fr_graph.proofs.Works.{operator_value, prompt_line, stands_next, rule_on, work_clean}
+use Rattle.fr_graph.proofs.Works.{prompt_line, rule_on, work_clean}
 use Rattle.fr_graph.proofs.Calls.{handler_clean, loop_clean, loop_value, both_none, under_none}
 use Rattle.fr_graph.proofs.Inside.{erase-opens, SoundShape, sound_shape, AllSound, outer_sound, body_sound, all_length, bodies_match, low_sound}
 use Rattle.fr_graph.proofs.Values.{AgreesAt, values_on, all_on, slots_on, kernel_means}

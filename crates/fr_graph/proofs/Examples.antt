@@ -1,21 +1,15 @@
 -- A worked example: a switch whose choice holds an event, as a graph that obeys all its rules.
-use Rattle.std.proofs.Common.{◌≡◌, ◌<◌, ℕ, zero, suc, pos, List, [], ◌∷◌, Bool, true, false, refl, sym, ap, subst, arith, Option, Some, None, Ok, Err}
+use Rattle.std.proofs.Common.{ℕ, zero, suc, pos, List, [], ◌∷◌, Bool, true, false, refl, arith, Option, Some, None}
 use Rattle.fr_value.specs.declared.value.Value.TheVariants as value
-use Rattle.fr_value.specs.declared.now.Now.{Now}
-use Rattle.fr_value.specs.declared.now.Now.TheVariants.{Plain, Occ}
 use Rattle.fr_core.specs.declared.core_form.Operator.TheVariants as operator
-use Rattle.fr_core.specs.declared.lowered.Low.{Low, out-Low}
+use Rattle.fr_core.specs.declared.lowered.Low.{Low}
 use Rattle.fr_core.specs.declared.lowered.Low.TheVariants as low
 use Rattle.fr_core.specs.declared.lowered.Low.TheVariants.{outs-Lit, outs-Source, outs-If, outs-Operator}
-use Rattle.fr_core.specs.declared.lowered.LowItem.{LowItem}
-use Rattle.fr_core.specs.declared.lowered.LowItem.TheVariants as low_item
 use Rattle.fr_meaning.specs.Words.{Seen, plain, occurs}
 use Rattle.fr_meaning.specs.Cells.{Cell, datum}
 use Rattle.fr_graph.specs.Graph.{Part, steady, signal, operates, Kind, source, works, watch, result, Graph}
 use Rattle.fr_graph.specs.Walk.{Plan, place}
-use Rattle.fr_graph.specs.Wired.{IsNext, AreNext, Chosen, Wired, EraStands}
-use Rattle.fr_graph.specs.Keeps.{everything}
-use Rattle.fr_graph.specs.Known.{SettledOn, ErasStandOn, HasEnded}
+use Rattle.fr_graph.specs.Wired.{Wired}
 
 -- (if x (hold e 0) 7)
 abbrev choice_a : Low
@@ -80,9 +74,14 @@ graph n = record { live = lives; kind = kinds; inputs = inputs; later = λ m. No
 
 switch_wired : (n : ℕ) → Wired (graph n) plan 0 (suc (suc (suc n))) switch [] (3 ∷ 4 ∷ [])
 unfolding place Wired
-switch_wired n = rw (outs-If (record { 0 = 0 }) (low.Source (record { 0 = 1 })) choice_a choice_b, outs-Source (record { 0 = 1 }))
-    (record { live = refl; kind = refl },
-     record {
-       watch = record { there = omega arith; live = refl; era = refl; level = refl; kind = refl; inputs = refl; later = refl };
-       there = omega arith; live = refl; era = refl; kind = refl; result = refl;
-     })
+switch_wired n = rw (outs-If (record { 0 = 0 }) (low.Source (record { 0 = 1 })) choice_a choice_b, outs-Source (record { 0 = 1 })) (
+  record { live = refl; kind = refl },
+  record {
+    watch = record { there = omega arith; live = refl; era = refl; level = refl; kind = refl; inputs = refl; later = refl };
+    there = omega arith;
+    live = refl;
+    era = refl;
+    kind = refl;
+    result = refl;
+  },
+)

@@ -1,12 +1,11 @@
 -- The law of the front: where a node errs whose inputs are known, evaluating afresh errs.
-use Rattle.std.proofs.Common.{◌≡◌, ◌≤◌, ◌+◌, ◌&&◌, ◌⊎◌, inl, inr, ℕ, zero, suc, Bool, true, false, List, [], ◌∷◌, ◌++◌, map, take, drop, length, slice_get, refl, ap, sym, ◌∙◌, subst, append-nil, arith, Option, Some, None, Result, Ok, Err}
+use Rattle.std.proofs.Common.{◌≡◌, ◌≤◌, ◌+◌, ◌&&◌, inl, inr, ℕ, zero, suc, Bool, true, false, List, [], ◌∷◌, ◌++◌, map, take, drop, length, slice_get, refl, ap, sym, ◌∙◌, subst, append-nil, arith, Option, Some, None, Result, Ok, Err}
 use Rattle.std.specs.Option.{option_map, option_or}
-use Rattle.std.proofs.lemmas.Bool.{false≢true}
 use Rattle.std.proofs.lemmas.List.{length-map, length-append}
 use Rattle.std.proofs.Math.Seq.{take-append_seam, drop-append_seam}
 use Rattle.fr_value.specs.declared.now.Now.{Now}
 use Rattle.fr_value.specs.declared.now.Bad.{Bad}
-use Rattle.fr_core.specs.Shapes.{outer, handler_parts, handler_binds, loop_binds}
+use Rattle.fr_core.specs.Shapes.{handler_parts, handler_binds, loop_binds}
 use Rattle.fr_core.specs.declared.core_form.Core.{Core, out-Core}
 use Rattle.fr_core.specs.declared.core_form.Core.TheOpen.{Core-F}
 use Rattle.fr_core.specs.declared.core_form.Core.TheVariants as core
@@ -20,22 +19,22 @@ use Rattle.fr_core.specs.declared.kept.Kept.TheVariants as kept
 use Rattle.fr_core.specs.declared.lowered.Low.{Low, out-Low, map-Low}
 use Rattle.fr_core.specs.declared.lowered.Low.TheOpen.{Low-F}
 use Rattle.fr_core.specs.declared.program.Program.{Program}
-use Rattle.fr_meaning.specs.Words.{Seen, Env, First, Done, under, own, plain, found, part, on_ok, test_of}
+use Rattle.fr_meaning.specs.Words.{Seen, Env, Done, under, own, plain, part, on_ok, test_of}
 use Rattle.fr_meaning.specs.Cells.{Cell, child, under_key}
-use Rattle.fr_meaning.specs.States.{Line, gives, of_operator, of_handler, of_feedback, fed, base_of, refusal_in, refused_by, no_call, state_now, beside, state_next, early_value}
-use Rattle.fr_meaning.specs.Evaluation.{World, world_of, Ev, Parts, parts, join_part, no_parts, ended, chosen_by, Choice, switch_done, call_done, body_for, handler, body_with, rounds, all_turns, refusal_first, line_done, form_cell, behind_cell, layer, eval_to}
+use Rattle.fr_meaning.specs.States.{Line, gives, of_operator, of_handler, of_feedback, fed, base_of, refusal_in, no_call, state_now, beside, state_next, early_value}
+use Rattle.fr_meaning.specs.Evaluation.{World, world_of, Ev, Parts, parts, join_part, no_parts, chosen_by, Choice, switch_done, call_done, body_for, handler, body_with, rounds, all_turns, refusal_first, line_done, form_cell, behind_cell, layer, eval_to}
 use Rattle.fr_meaning.proofs.Levels.{evaluates}
 use Rattle.fr_kernel.specs.Kernels.{Kernels, slot_seen}
 use Rattle.fr_kernel.specs.Erasure.{erase, erase_step, kernel_expr}
-use Rattle.fr_graph.specs.Graph.{Part, steady, signal, Work, operates, handles, loops, runs, feeds, Kind, works, watch, result, Graph, part_value, part_values, kernel_run, kernel_call, IsClean, operator_early, work_line, is_plain}
+use Rattle.fr_graph.specs.Graph.{Part, steady, signal, Work, operates, handles, loops, runs, feeds, works, watch, Graph, part_value, part_values, kernel_run, kernel_call, IsClean, operator_early, work_line, is_plain}
 use Rattle.fr_graph.specs.Walk.{Plan, first, rest, Walk, AllPlaced, place_all, all_steady, steady_values, slot_parts, low_body, place}
 use Rattle.fr_graph.specs.Wired.{IsNext, inputs_of, later_of, Either, Unless, WorkStands, AllStand, Chosen, SwitchStands, CallStands, ShapeStands, Wired, EraStands}
-use Rattle.fr_graph.specs.Keeps.{Asked, AllKeep, SwitchKeeps, CallKeeps, CellKeeps, ShapeKeeps, Keeps, asks_nothing}
-use Rattle.fr_graph.specs.Known.{Reads, IsClosed, IsKnown, Have, IsWatched, Rule, SettledOn, ErasStandOn}
+use Rattle.fr_graph.specs.Keeps.{Asked, AllKeep, SwitchKeeps, CallKeeps, ShapeKeeps, Keeps, asks_nothing}
+use Rattle.fr_graph.specs.Known.{AllKnown, IsClosed, IsKnown, Have, IsWatched, SettledOn, ErasStandOn}
 use Rattle.fr_graph.specs.Sound.{Sound, IsPlanOf, KernelsMean}
 use Rattle.fr_graph.specs.Front.{AnyOccurs, WorkOccurs, SwitchOccurs, CallOccurs, ShapeOccurs, Occurs, Errs}
-use Rattle.fr_graph.proofs.Parts.{AllKnown, read_known, have_append, have_length}
-use Rattle.fr_graph.proofs.Works.{prompt_line, input_line, rule_on, inputs_on}
+use Rattle.fr_graph.proofs.Parts.{have_append, have_length}
+use Rattle.fr_graph.proofs.Works.{input_line, rule_on, inputs_on}
 use Rattle.fr_graph.proofs.Calls.{handler_clean, loop_clean, loop_value, none_left, none_right, none_under}
 use Rattle.fr_graph.proofs.Inside.{erase-opens, SoundShape, sound_shape, AllSound, outer_sound, body_sound, all_length, bodies_match, low_sound}
 use Rattle.fr_graph.proofs.Values.{AgreesAt, values_on, all_on, slots_on, kernel_means}
@@ -109,7 +108,6 @@ value_good (suc n) w e env k h = layer_good w (eval_to n w) env k (out-Core e) h
 module _ (g : Graph) (known : ℕ → Type 0) (p : Plan) (pr : Program) (plan : IsPlanOf pr p) (sources : List Now) (before : ℕ → Option Cell)
     (closed : IsClosed g known) (settled : SettledOn g known p.table sources before) (eras : ErasStandOn g known p) (means : KernelsMean p pr sources)
     (m : ℕ) (inputs : AllKnown known (g.inputs m)) (errs : Errs g p.table before m (g.kind m) (g.inputs m)) where
-
   abbrev t : Kernels
   t = p.table
 
@@ -138,9 +136,9 @@ module _ (g : Graph) (known : ℕ → Type 0) (p : Plan) (pr : Program) (plan : 
       let ins : g.inputs m ≡ inputs_of wk ps = ap g.inputs is ∙ st.inputs in
       let here = subst (λ j. Errs g t before m j (inputs_of wk ps)) kind (subst (λ l. Errs g t before m (g.kind m) l) ins errs) in
       let line : work_line t (g.level m) wk (before m) (part_values g (inputs_of wk ps)) ≡ work_line t n wk c us
-          = ap (λ j. work_line t j wk (before m) (part_values g (inputs_of wk ps))) (ap g.level is ∙ st.level)
-            ∙ ap (λ o. work_line t n wk o (part_values g (inputs_of wk ps))) (ap before is ∙ cell)
-            ∙ input_line g known t n wk c ps us have (subst (AllKnown known) ins inputs) in
+      = ap (λ j. work_line t j wk (before m) (part_values g (inputs_of wk ps))) (ap g.level is ∙ st.level)
+      ∙ ap (λ o. work_line t n wk o (part_values g (inputs_of wk ps))) (ap before is ∙ cell)
+      ∙ input_line g known t n wk c ps us have (subst (AllKnown known) ins inputs) in
       here (subst IsClean (sym line) clean)
 
   -- a plain work has no cell
@@ -156,7 +154,7 @@ module _ (g : Graph) (known : ℕ → Type 0) (p : Plan) (pr : Program) (plan : 
       → Have g known ps us → before (first ms) ≡ c → IsClean (work_line t n wk c us) → ⊥
   other_errs x n wk ps us ms c plain st oc have cell clean =
       node_errs x n wk ps us ms c (later_of wk ps) (subst (λ b. Either (b && all_steady ps) ⊥ (m ≡ first ms)) plain oc)
-        (subst (λ b. Either (b && all_steady ps) (IsClean (work_line t n wk None (steady_values ps))) (IsNext g x n (works wk) (inputs_of wk ps) (later_of wk ps) ms)) plain st) have cell clean
+      (subst (λ b. Either (b && all_steady ps) (IsClean (work_line t n wk None (steady_values ps))) (IsNext g x n (works wk) (inputs_of wk ps) (later_of wk ps) ms)) plain st) have cell clean
 
   module _ (n : ℕ) (few : suc n ≤ 2001) (ih : FrontAt n) (x : ℕ) (env : List Part) (vs : Env) (en : Have g known env vs) where
     below : n ≤ 2001
@@ -187,9 +185,9 @@ module _ (g : Graph) (known : ℕ → Type 0) (p : Plan) (pr : Program) (plan : 
     any_front (e ∷ es) i ms k s st kp oc h =
         let d = ev (f e) vs (child k i) in
         elim oc [
-        | inl o ↦ ih e x env vs ms (child k i) s.0 en st.0 kp.0 o (none_under i d.first (none_left (under i d.first) _ h))
-        | inr o ↦ any_front es (i + 1) (walk e env ms).left k s.1 st.1 kp.1 o (none_right (under i d.first) _ h)
-      ]
+          | inl o ↦ ih e x env vs ms (child k i) s.0 en st.0 kp.0 o (none_under i d.first (none_left (under i d.first) _ h))
+          | inr o ↦ any_front es (i + 1) (walk e env ms).left k s.1 st.1 kp.1 o (none_right (under i d.first) _ h)
+        ]
 
     opens : (c : Core) (l : Core-F Core) (k : Kept) → out-Core c ≡ l → (eval_to (suc n) w c vs k).first ≡ None → (layer w ev vs k l).first ≡ None
     opens c l k h e = ap (λ l. (layer w ev vs k l).first) (sym h) ∙ sym (ap (λ d. d.first) (evaluates n w c vs k)) ∙ e
@@ -236,17 +234,17 @@ module _ (g : Graph) (known : ℕ → Type 0) (p : Plan) (pr : Program) (plan : 
         chosen_front a b x ms k d (test_of v) sa sb st kp oc (ap (λ u. (switch_done ev vs k d (on_ok (chosen_by (f a) (f b)) (test_of u))).first) (r tt) ∙ none)
     switch_front a b (signal i) ms k d sa sb r st kp oc none =
         elim oc [
-        | inl is ↦ watch_front a b i ms k d r is st.watch none
-        | inr o ↦
-          let c = first ms in
-          let rule : IsWatched g c (signal i) = rule_on g known t sources before closed settled x n (watch a b env) (signal i ∷ []) None ms o.0 st.watch in
-          let ki : known i = (inputs_on g known t sources before closed settled x n (watch a b env) (signal i ∷ []) None ms o.0 st.watch).0 in
-          let tested : test_of d.value ≡ Ok rule.holds = ap test_of (sym (r ki)) ∙ rule.test in
-          let era = subst (λ o. Chosen o (EraStands g p c a env) (EraStands g p c b env)) rule.value (eras c a b env o.0 st.watch.live st.watch.kind) in
-          let trees = subst (λ o. Chosen o (Trees a env (g.members (suc c)) (under_key (key.Test true) (child k 1))) (Trees b env (g.members (suc c)) (under_key (key.Test false) (child k 1)))) rule.value (kp o.0).1 in
-          let occurs = subst (λ r. Chosen r (Here a env (g.members (suc c))) (Here b env (g.members (suc c)))) rule.value o.1 in
-          era_front a b c k d rule.holds sa sb st.watch.level era trees occurs (ap (λ o. (switch_done ev vs k d (on_ok (chosen_by (f a) (f b)) o)).first) (sym tested) ∙ none)
-      ]
+          | inl is ↦ watch_front a b i ms k d r is st.watch none
+          | inr o ↦
+              let c = first ms in
+              let rule : IsWatched g c (signal i) = rule_on g known t sources before closed settled x n (watch a b env) (signal i ∷ []) None ms o.0 st.watch in
+              let ki : known i = (inputs_on g known t sources before closed settled x n (watch a b env) (signal i ∷ []) None ms o.0 st.watch).0 in
+              let tested : test_of d.value ≡ Ok rule.holds = ap test_of (sym (r ki)) ∙ rule.test in
+              let era = subst (λ o. Chosen o (EraStands g p c a env) (EraStands g p c b env)) rule.value (eras c a b env o.0 st.watch.live st.watch.kind) in
+              let trees = subst (λ o. Chosen o (Trees a env (g.members (suc c)) (under_key (key.Test true) (child k 1))) (Trees b env (g.members (suc c)) (under_key (key.Test false) (child k 1)))) rule.value (kp o.0).1 in
+              let occurs = subst (λ r. Chosen r (Here a env (g.members (suc c))) (Here b env (g.members (suc c)))) rule.value o.1 in
+              era_front a b c k d rule.holds sa sb st.watch.level era trees occurs (ap (λ o. (switch_done ev vs k d (on_ok (chosen_by (f a) (f b)) o)).first) (sym tested) ∙ none)
+        ]
 
     call_front : (o : Option Low) (qs : AllPlaced) (k : Kept) (j : ℕ) (ps : Parts) → Have g known qs.parts ps.values → length qs.parts ≡ j
         → ((body : Low) → o ≡ Some body → Sound t j body) → CallStands Stands o qs → CallKeeps Trees o qs (child k j) → CallOccurs Here o qs
@@ -284,19 +282,19 @@ module _ (g : Graph) (known : ℕ → Type 0) (p : Plan) (pr : Program) (plan : 
         let r = ev (f b) (vs ++ ps.values) (child k (length (map f es))) in
         let none = none_left (option_or ps.first (under (length (map f es)) r.first)) (own r.value) (opens (core.Let (map f es) (f b)) (Core-F.Let (map f es) (f b)) k (outs-Let (map f es) (f b)) h) in
         elim oc [
-        | inl o ↦ any_front es 0 ms k inside.0 st.0 kp.0 o (none_left ps.first _ none)
-        | inr o ↦ ih b x (env ++ qs.parts) (vs ++ ps.values) qs.left (child k (length es)) (subst (λ m. Sound t m b) (sym wide) inside.1) (have_append g known env vs qs.parts ps.values en have) st.1 kp.1 o
-          (ap (λ j. (ev (f b) (vs ++ ps.values) (child k j)).first) (sym (length-map es f)) ∙ none_under (length (map f es)) r.first (none_right ps.first _ none))
-      ]
+          | inl o ↦ any_front es 0 ms k inside.0 st.0 kp.0 o (none_left ps.first _ none)
+          | inr o ↦ ih b x (env ++ qs.parts) (vs ++ ps.values) qs.left (child k (length es)) (subst (λ m. Sound t m b) (sym wide) inside.1) (have_append g known env vs qs.parts ps.values en have) st.1 kp.1 o
+              (ap (λ j. (ev (f b) (vs ++ ps.values) (child k j)).first) (sym (length-map es f)) ∙ none_under (length (map f es)) r.first (none_right ps.first _ none))
+        ]
     shape_front (Low-F.If site test a b) ms k s st kp oc h =
         let inside = outer_sound t (length env) (test ∷ a ∷ b ∷ []) s.inside in
         let d = ev (f test) vs (child k 0) in
         let r = agrees_at n below test x env vs ms (child k 0) inside.0 en st.0 kp.0 in
         let none = opens (core.If (f test) (f a) (f b)) (Core-F.If (f test) (f a) (f b)) k (outs-If (f test) (f a) (f b)) h in
         elim oc [
-        | inl o ↦ ih test x env vs ms (child k 0) inside.0 en st.0 kp.0 o (test_none d (on_ok (chosen_by (f a) (f b)) (test_of d.value)) none)
-        | inr o ↦ switch_front a b (walk test env ms).part (walk test env ms).left k d inside.1.0 inside.1.1.0 r st.1 kp.1 o none
-      ]
+          | inl o ↦ ih test x env vs ms (child k 0) inside.0 en st.0 kp.0 o (test_none d (on_ok (chosen_by (f a) (f b)) (test_of d.value)) none)
+          | inr o ↦ switch_front a b (walk test env ms).part (walk test env ms).left k d inside.1.0 inside.1.1.0 r st.1 kp.1 o none
+        ]
       where
         test_none : (d : Done) (r : Result Choice Bad) → (switch_done ev vs k d r).first ≡ None → d.first ≡ None
         test_none d (Err bad) h = none_under 0 d.first (none_left (under 0 d.first) _ h)
@@ -311,9 +309,9 @@ module _ (g : Graph) (known : ℕ → Type 0) (p : Plan) (pr : Program) (plan : 
         let same : option_map f o ≡ body_for (slice_get w.functions id.0) j = sym (bodies_match t.kernels p.functions id.0 j) ∙ ap (λ fs. body_for (slice_get fs id.0) j) (sym plan.functions) in
         let none = ap (λ b. (call_done ev k j ps b).first) same ∙ ap (λ i. (call_done ev k i ps (body_for (slice_get w.functions id.0) i)).first) (sym (length-map es f)) ∙ opens (core.Apply id (map f es)) (Core-F.Apply id (map f es)) k (outs-Apply id (map f es)) h in
         elim oc [
-        | inl c ↦ any_front es 0 ms k sound st.0 kp.0 c (call_parts k j ps (option_map f o) none)
-        | inr c ↦ call_front o qs k j ps have (all_length walk env es ms) (λ body e. low_sound t (slice_get p.functions id.0) j body (plan.bodies id.0) e) st.1 kp.1 c none
-      ]
+          | inl c ↦ any_front es 0 ms k sound st.0 kp.0 c (call_parts k j ps (option_map f o) none)
+          | inr c ↦ call_front o qs k j ps have (all_length walk env es ms) (λ body e. low_sound t (slice_get p.functions id.0) j body (plan.bodies id.0) e) st.1 kp.1 c none
+        ]
     shape_front (Low-F.Operator o es) ms k s st kp oc h =
         let qs = place_all walk env es ms in
         let inner = behind_cell (of_operator o) k in
@@ -323,9 +321,9 @@ module _ (g : Graph) (known : ℕ → Type 0) (p : Plan) (pr : Program) (plan : 
         let line = state_now (of_operator o) (form_cell (of_operator o) k) ps.values no_call in
         let none = opens (core.Operator o (map f es)) (Core-F.Operator o (map f es)) k (outs-Operator o (map f es)) h in
         elim oc [
-        | inl c ↦ any_front es 0 ms inner sound st.0 kp.0 c (line_parts ps line none)
-        | inr c ↦ operator_front o qs.parts ps.values qs.left (form_cell (of_operator o) k) st.1 c have kp.1 (line_clean ps line none)
-      ]
+          | inl c ↦ any_front es 0 ms inner sound st.0 kp.0 c (line_parts ps line none)
+          | inr c ↦ operator_front o qs.parts ps.values qs.left (form_cell (of_operator o) k) st.1 c have kp.1 (line_clean ps line none)
+        ]
     shape_front (Low-F.Handler g' es id ss) ms k s st kp oc h =
         let qs = place_all walk env es ms in
         let inner = behind_cell (of_handler g') k in
@@ -342,15 +340,15 @@ module _ (g : Graph) (known : ℕ → Type 0) (p : Plan) (pr : Program) (plan : 
         let told = state_now (of_handler g') cell ps.values (handler ev vs (length (map f es)) body) in
         let none = opens (core.Handler g' (map f es) body) (Core-F.Handler g' (map f es) body) k (outs-Handler g' (map f es) body) h in
         let line = handler_clean g' cell ps.values (handler ev vs (length (map f es)) body) (kernel_call t n id.0 others)
-                 (λ args e. let same = kernel_means g known p pr plan sources before closed settled eras means n few (agrees_at n below) x env vs en n id.0 (handler_binds g') ss args kept.Nothing below s.fits e in
-                   (sym same.value, λ e. same.first ∙ none_under (length (map f es)) _ e)) (line_clean ps told none) in
+        (λ args e. let same = kernel_means g known p pr plan sources before closed settled eras means n few (agrees_at n below) x env vs en n id.0 (handler_binds g') ss args kept.Nothing below s.fits e in
+        (sym same.value, λ e. same.first ∙ none_under (length (map f es)) _ e)) (line_clean ps told none) in
         let line' = subst (λ xs. IsClean (state_now (of_handler g') cell xs (kernel_call t n id.0 (drop (handler_parts g') (ps.values ++ others))))) (sym front)
-                  (subst (λ xs. IsClean (state_now (of_handler g') cell ps.values (kernel_call t n id.0 xs))) (sym behind) line) in
+        (subst (λ xs. IsClean (state_now (of_handler g') cell ps.values (kernel_call t n id.0 xs))) (sym behind) line) in
         elim oc [
-        | inl c ↦ any_front es 0 ms inner sound st.0 kp.0 c (line_parts ps told none)
-        | inr c ↦ other_errs x n (handles g' id.0) (qs.parts ++ slot_parts p env ss) (ps.values ++ others) qs.left cell refl st.2 c
-          (have_append g known qs.parts ps.values (slot_parts p env ss) others have slots) kp.1 line'
-      ]
+          | inl c ↦ any_front es 0 ms inner sound st.0 kp.0 c (line_parts ps told none)
+          | inr c ↦ other_errs x n (handles g' id.0) (qs.parts ++ slot_parts p env ss) (ps.values ++ others) qs.left cell refl st.2 c
+              (have_append g known qs.parts ps.values (slot_parts p env ss) others have slots) kp.1 line'
+        ]
     shape_front (Low-F.Loop l es id ss) ms k s st kp oc h =
         let qs = place_all walk env es ms in
         let ps = parts ev vs k 0 (map f es) in
@@ -363,13 +361,13 @@ module _ (g : Graph) (known : ℕ → Type 0) (p : Plan) (pr : Program) (plan : 
         let none = opens (core.Loop l (map f es) body) (Core-F.Loop l (map f es) body) k (outs-Loop l (map f es) body) h in
         let turns_none = none_under (length (map f es)) _ (none_right ps.first _ (none_left _ _ none)) in
         elim oc [
-        | inl c ↦ any_front es 0 ms k sound st.0 kp c (none_left ps.first _ (none_left _ _ none))
-        | inr c ↦ plain_errs x n (loops l id.0) (qs.parts ++ slot_parts p env ss) (ps.values ++ others) qs.left (λ c. refl) st.2 c
-          (have_append g known qs.parts ps.values (slot_parts p env ss) others have slots)
-          (loop_line l id.0 ps.values others body count
-            (λ args e. let same = kernel_means g known p pr plan sources before closed settled eras means n few (agrees_at n below) x env vs en n id.0 (loop_binds l) ss args kept.Nothing below s.fits e in (sym same.value, λ e. same.first ∙ e))
-            (none_right _ _ none) turns_none)
-      ]
+          | inl c ↦ any_front es 0 ms k sound st.0 kp c (none_left ps.first _ (none_left _ _ none))
+          | inr c ↦ plain_errs x n (loops l id.0) (qs.parts ++ slot_parts p env ss) (ps.values ++ others) qs.left (λ c. refl) st.2 c
+              (have_append g known qs.parts ps.values (slot_parts p env ss) others have slots)
+              (loop_line l id.0 ps.values others body count
+              (λ args e. let same = kernel_means g known p pr plan sources before closed settled eras means n few (agrees_at n below) x env vs en n id.0 (loop_binds l) ss args kept.Nothing below s.fits e in (sym same.value, λ e. same.first ∙ e))
+              (none_right _ _ none) turns_none)
+        ]
       where
         loop_line : (l : Loop) (id : ℕ) (xs others : List Seen) (body : Core) → length xs ≡ 2
             → ((args : List Seen) → length args ≡ loop_binds l → ((body_with ev vs body args).value ≡ (kernel_run t n id others args).value) × ((body_with ev vs body args).first ≡ None → (kernel_run t n id others args).first ≡ None))
@@ -394,9 +392,9 @@ module _ (g : Graph) (known : ℕ → Type 0) (p : Plan) (pr : Program) (plan : 
         let x0 = fed cell d.value in
         let last = (walk body inside (rest i.left)).part in
         let name : known c → g.value c ≡ x0 = λ kc.
-            let rule = rule_on g known t sources before closed settled x n (works feeds) (i.part ∷ []) (Some last) i.left kc st.2 in
-            let ki = (inputs_on g known t sources before closed settled x n (works feeds) (i.part ∷ []) (Some last) i.left kc st.2).0 in
-            rule.value ∙ ap (λ o. fed o (part_value g i.part)) kp.2 ∙ ap (fed cell) (r ki) in
+        let rule = rule_on g known t sources before closed settled x n (works feeds) (i.part ∷ []) (Some last) i.left kc st.2 in
+        let ki = (inputs_on g known t sources before closed settled x n (works feeds) (i.part ∷ []) (Some last) i.left kc st.2).0 in
+        rule.value ∙ ap (λ o. fed o (part_value g i.part)) kp.2 ∙ ap (fed cell) (r ki) in
         let wide : length inside ≡ length env + 1 = length-append env (signal c ∷ []) in
         let sound1 = subst (λ m. Sound t m body) (sym wide) (s.inside 1 (1, body) refl) in
         let b = ev (f body) (vs ++ x0 ∷ []) (child inner 1) in
@@ -408,17 +406,17 @@ module _ (g : Graph) (known : ℕ → Type 0) (p : Plan) (pr : Program) (plan : 
         let line = line_clean ps told none in
         let d_none = none_under 0 d.first (none_left (under 0 d.first) _ parts_none) in
         elim oc [
-        | inl o ↦ ih init x env vs ms (child inner 0) sound0 en st.0 kp.0 o d_none
-        | inr more ↦ elim more [
-          | inl o ↦ ih body x inside (vs ++ x0 ∷ []) (rest i.left) (child inner 1) sound1 have st.1 kp.1 o (none_under 1 b.first (none_left (under 1 b.first) None (none_right (under 0 d.first) _ parts_none)))
-          | inr is ↦ node_errs x n feeds (i.part ∷ []) (d.value ∷ []) i.left cell (Some last) is st.2 (r, tt) kp.2
-            (record {
-              value = fed_good cell d.value (value_good n w (f init) vs (child inner 0) d_none);
-              inner = refl;
-              refusal = refused_left (refusal_in (base_of cell d.value)) (beside b.value (state_next of_feedback (d.value ∷ b.value ∷ []))).refusal line.refusal;
-            })
+          | inl o ↦ ih init x env vs ms (child inner 0) sound0 en st.0 kp.0 o d_none
+          | inr more ↦ elim more [
+            | inl o ↦ ih body x inside (vs ++ x0 ∷ []) (rest i.left) (child inner 1) sound1 have st.1 kp.1 o (none_under 1 b.first (none_left (under 1 b.first) None (none_right (under 0 d.first) _ parts_none)))
+            | inr is ↦ node_errs x n feeds (i.part ∷ []) (d.value ∷ []) i.left cell (Some last) is st.2 (r, tt) kp.2
+                (record {
+                  value = fed_good cell d.value (value_good n w (f init) vs (child inner 0) d_none);
+                  inner = refl;
+                  refusal = refused_left (refusal_in (base_of cell d.value)) (beside b.value (state_next of_feedback (d.value ∷ b.value ∷ []))).refusal line.refusal;
+                })
+          ]
         ]
-      ]
       where
         zero_more : (m : ℕ) → m + 0 ≡ m
         zero_more m = omega arith
@@ -446,4 +444,4 @@ module _ (g : Graph) (known : ℕ → Type 0) (p : Plan) (pr : Program) (plan : 
   front_on (suc n) few e x env vs ms k s en st kp oc h =
       let below : n ≤ 2001 = omega (arith, few) in
       shape_front n few (front_on n below) x env vs en (out-Low e) ms k (sound_shape t (length env) e s) st kp oc
-        (subst (λ c. (eval_to (suc n) w c vs k).first ≡ None) (erase-opens t.kernels e) h)
+      (subst (λ c. (eval_to (suc n) w c vs k).first ≡ None) (erase-opens t.kernels e) h)

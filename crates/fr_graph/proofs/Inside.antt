@@ -1,5 +1,5 @@
 -- What is inside a sound expression, and what it erases to.
-use Rattle.std.proofs.Common.{◌≡◌, ◌+◌, ◌==◌, ℕ, zero, suc, Bool, true, false, if◌then◌else◌, List, [], ◌∷◌, ◌++◌, map, length, slice_get, refl, ap, sym, ◌∙◌, subst, Option, Some, None, arith}
+use Rattle.std.proofs.Common.{◌≡◌, ◌+◌, ◌==◌, ℕ, zero, suc, Bool, true, false, if◌then◌else◌, List, [], ◌∷◌, ◌++◌, map, length, slice_get, refl, ap, sym, subst, Option, Some, None, arith}
 use Rattle.std.specs.Option.{option_and_then, option_map}
 use Rattle.std.proofs.lemmas.Bool.{eqb-true}
 use Rattle.fr_core.specs.Shapes.{outer}
@@ -7,11 +7,10 @@ use Rattle.fr_core.specs.declared.core_form.Core.{Core}
 use Rattle.fr_core.specs.declared.lowered.Low.{Low, out-Low, fold_out-Low, map-Low}
 use Rattle.fr_core.specs.declared.lowered.Low.TheOpen.{Low-F}
 use Rattle.fr_core.specs.declared.lowered.LowFunction.{LowFunction}
-use Rattle.fr_core.specs.declared.program.Function.{Function}
 use Rattle.fr_meaning.specs.Evaluation.{body_for}
 use Rattle.fr_graph.specs.Graph.{Part}
 use Rattle.fr_kernel.specs.Kernels.{Kernels, Kernel}
-use Rattle.fr_kernel.specs.Erasure.{erase, erase_step, erased_function, inner_low, Place, place_below, Everywhere, named_in, FitsIfNamed}
+use Rattle.fr_kernel.specs.Erasure.{erase, erase_step, erased_function, inner_low, place_below, named_in, FitsIfNamed}
 use Rattle.fr_graph.specs.Walk.{Walk, place_all, low_body}
 use Rattle.fr_graph.specs.Sound.{HasParts, IsSoundAt, Sound}
 

@@ -1,34 +1,33 @@
 -- The items of a body in a graph, from one instant to the next.
-use Rattle.std.proofs.Common.{◌≡◌, ◌≤◌, ◌+◌, ℕ, suc, List, [], ◌∷◌, ◌++◌, map, length, refl, ap, sym, ◌∙◌, subst, append_assoc, arith, Option, None}
+use Rattle.std.proofs.Common.{◌≡◌, ◌≤◌, ◌+◌, ℕ, List, [], ◌∷◌, ◌++◌, map, length, refl, ap, sym, ◌∙◌, subst, append_assoc, arith, Option, None}
 use Rattle.std.proofs.lemmas.List.{length_push}
 use Rattle.fr_value.specs.declared.now.Now.{Now}
-use Rattle.fr_core.specs.declared.core_form.Core.{Core}
 use Rattle.fr_core.specs.declared.kept.Kept.{Kept}
 use Rattle.fr_core.specs.declared.kept.Kept.TheVariants as kept
 use Rattle.fr_core.specs.declared.lowered.LowItem.{LowItem}
 use Rattle.fr_core.specs.declared.lowered.LowItem.TheVariants as low_item
 use Rattle.fr_core.specs.declared.program.Program.{Program}
-use Rattle.fr_meaning.specs.Words.{Seen, Env, under}
+use Rattle.fr_meaning.specs.Words.{Env, under}
 use Rattle.fr_meaning.specs.Cells.{Cell, child}
-use Rattle.fr_meaning.specs.Evaluation.{World, world_of, Ev, eval_to}
-use Rattle.fr_meaning.specs.Afresh.{items, body}
+use Rattle.fr_meaning.specs.Evaluation.{world_of, Ev, eval_to}
+use Rattle.fr_meaning.specs.Afresh.{items}
 use Rattle.fr_kernel.specs.Erasure.{erase, erased_item}
 use Rattle.fr_kernel.specs.Kernels.{Kernels}
 use Rattle.fr_graph.specs.Graph.{Part, Graph}
 use Rattle.fr_graph.specs.Walk.{Plan, Walk, place}
 use Rattle.fr_graph.specs.Wired.{Wired}
-use Rattle.fr_graph.specs.Keeps.{Asked, Keeps, asks_nothing, everything, HasKey, StandsFor}
-use Rattle.fr_graph.specs.Known.{IsClosed, IsKnown, Have, SettledOn, ErasStandOn, HasEnded}
-use Rattle.fr_graph.specs.Sound.{Sound, IsPlanOf, KernelsMean}
+use Rattle.fr_graph.specs.Keeps.{Asked, Keeps, asks_nothing, everything, StandsFor}
+use Rattle.fr_graph.specs.Known.{IsClosed, Have, SettledOn, ErasStandOn, HasEnded}
+use Rattle.fr_graph.specs.Sound.{IsPlanOf, KernelsMean}
 use Rattle.fr_graph.specs.Goes.{Goes, IsEmpty}
-use Rattle.fr_graph.specs.Items.{place_items, ItemsStand, ItemsKeep, ItemsSound, AreLowered, body_walk, HasNodes, StandsForTree, IsSettled, ShowsBody, IsAfresh}
+use Rattle.fr_graph.specs.Items.{place_items, ItemsStand, ItemsKeep, ItemsSound, AreLowered, body_walk, HasNodes, StandsForTree, IsSettled, IsAfresh}
 use Rattle.fr_graph.proofs.Parts.{have_append}
 use Rattle.fr_graph.proofs.Means.{kernels_mean}
 use Rattle.fr_graph.proofs.Values.{AgreesAt, values_on}
 use Rattle.fr_graph.proofs.Calls.{both_none, under_none}
 use Rattle.fr_graph.proofs.Clean.{AllGood, good_append, errless_on}
 use Rattle.fr_graph.proofs.Trees.{StandsAt, trees_on, next_child}
-use Rattle.fr_graph.proofs.Carry.{CarriesAt, carry, born_at, child_none}
+use Rattle.fr_graph.proofs.Carry.{carry, born_at, child_none}
 
 module _ (g : Graph) (p : Plan) (pr : Program) (plan : IsPlanOf pr p) (sources : List Now) (before : ℕ → Option Cell) (rules : SettledOn g everything p.table sources before) (eras : ErasStandOn g everything p) (ended : HasEnded g) where
   means : KernelsMean p pr sources
@@ -105,21 +104,21 @@ module _ (g : Graph) (p : Plan) (pr : Program) (plan : IsPlanOf pr p) (sources :
         let h = errless_on g p pr plan sources before rules eras means ended n few e x env vs ms (child k i) s.0 en good st.0 kp.0 in
         both_none (under i d.first) _ (under_none i d.first h.first) (items_errless is x (i + 1) env vs (walk e env ms).left k s.1 en good st.1 kp.1)
 
-module _ (was g : Graph) (p : Plan) (before : ℕ → Option Cell) (go : Goes was g before) (new_eras : ErasStandOn g everything p) (old_eras : ErasStandOn was everything p) (n : ℕ) where
-  items_carry : (is : List LowItem) (x i : ℕ) (env : List Part) (ms : List ℕ) (k : Kept) → ItemsStand (place p n) (Wired was p x n) env is ms → ItemsStand (place p n) (Wired g p x n) env is ms
-      → ItemsKeep (place p n) (StandsFor was p n) env i is ms k → ItemsKeep (place p n) (Keeps g p (record { known = everything; cell = before; asks = asks_nothing }) n) env i is ms k
+module _ (was g : Graph) (p : Plan) (known : ℕ → Type 0) (before : ℕ → Option Cell) (go : Goes was g before) (new_eras : ErasStandOn g known p) (old_eras : ErasStandOn was everything p) (n : ℕ) where
+  pub items_carry : (is : List LowItem) (x i : ℕ) (env : List Part) (ms : List ℕ) (k : Kept) → ItemsStand (place p n) (Wired was p x n) env is ms → ItemsStand (place p n) (Wired g p x n) env is ms
+      → ItemsKeep (place p n) (StandsFor was p n) env i is ms k → ItemsKeep (place p n) (Keeps g p (record { known = known; cell = before; asks = asks_nothing }) n) env i is ms k
   items_carry [] x i env ms k s0 s1 kp = tt
   items_carry (low_item.Define e ∷ is) x i env ms k s0 s1 kp =
-      (carry was g p everything before go new_eras old_eras n e x env ms (child k i) s0.0 s1.0 kp.0, items_carry is x (i + 1) (env ++ (place p n e env ms).part ∷ []) (place p n e env ms).left k s0.1 s1.1 kp.1)
+      (carry was g p known before go new_eras old_eras n e x env ms (child k i) s0.0 s1.0 kp.0, items_carry is x (i + 1) (env ++ (place p n e env ms).part ∷ []) (place p n e env ms).left k s0.1 s1.1 kp.1)
   items_carry (low_item.Show name e ∷ is) x i env ms k s0 s1 kp =
-      (carry was g p everything before go new_eras old_eras n e x env ms (child k i) s0.0 s1.0 kp.0, items_carry is x (i + 1) env (place p n e env ms).left k s0.1 s1.1 kp.1)
+      (carry was g p known before go new_eras old_eras n e x env ms (child k i) s0.0 s1.0 kp.0, items_carry is x (i + 1) env (place p n e env ms).left k s0.1 s1.1 kp.1)
 
 -- ONE INSTANT. For every tree for which the graph stood, it then shows what evaluating the body afresh over that tree shows, and stands for what that keeps.
 pub instant_afresh : (was g : Graph) (pr : Program) (p : Plan) (is : List LowItem) (ms : List ℕ) (sources : List Now) (before : ℕ → Option Cell) (k : Kept)
     → AreLowered pr p is → Goes was g before → HasNodes was p is ms → HasNodes g p is ms → IsSettled g p sources before → StandsForTree was p is ms k
     → IsAfresh g pr p is ms sources k
 instant_afresh was g pr p is ms sources before k lowered go had has settled stood =
-    let kp = items_carry was g p before go has.eras had.eras 2000 is 0 0 [] ms k had.items has.items stood in
+    let kp = items_carry was g p everything before go has.eras had.eras 2000 is 0 0 [] ms k had.items has.items stood in
     let few : 2000 ≤ 2001 = omega arith in
     record {
       shows = subst (λ b. Have g everything (place_items (body_walk p) [] is ms).parts (items (eval_to 2000 (world_of pr sources)) [] k 0 b).shown) (sym lowered.items)
@@ -130,16 +129,16 @@ instant_afresh was g pr p is ms sources before k lowered go had has settled stoo
           (items_keep g p pr lowered.plan sources before settled.rules has.eras settled.ended 2000 few is 0 0 [] [] ms k [] refl lowered.sound tt has.items kp);
     }
 
-module _ (was g : Graph) (p : Plan) (before : ℕ → Option Cell) (go : Goes was g before) (new_eras : ErasStandOn g everything p) (n : ℕ) (x : ℕ) (empty : IsEmpty was) where
-  items_begin : (is : List LowItem) (i : ℕ) (env : List Part) (ms : List ℕ) → ItemsStand (place p n) (Wired g p x n) env is ms
-      → ItemsKeep (place p n) (Keeps g p (record { known = everything; cell = before; asks = asks_nothing }) n) env i is ms kept.Nothing
+module _ (was g : Graph) (p : Plan) (known : ℕ → Type 0) (before : ℕ → Option Cell) (go : Goes was g before) (new_eras : ErasStandOn g known p) (n : ℕ) (x : ℕ) (empty : IsEmpty was) where
+  pub items_begin : (is : List LowItem) (i : ℕ) (env : List Part) (ms : List ℕ) → ItemsStand (place p n) (Wired g p x n) env is ms
+      → ItemsKeep (place p n) (Keeps g p (record { known = known; cell = before; asks = asks_nothing }) n) env i is ms kept.Nothing
   items_begin [] i env ms st = tt
   items_begin (low_item.Define e ∷ is) i env ms st = (
-    subst (Keeps g p (record { known = everything; cell = before; asks = asks_nothing }) n e env ms) (sym (child_none i)) (born_at was g p everything before go new_eras n e x env ms (λ m lv er. empty m) st.0),
+    subst (Keeps g p (record { known = known; cell = before; asks = asks_nothing }) n e env ms) (sym (child_none i)) (born_at was g p known before go new_eras n e x env ms (λ m lv er. empty m) st.0),
     items_begin is (i + 1) (env ++ (place p n e env ms).part ∷ []) (place p n e env ms).left st.1,
   )
   items_begin (low_item.Show name e ∷ is) i env ms st = (
-    subst (Keeps g p (record { known = everything; cell = before; asks = asks_nothing }) n e env ms) (sym (child_none i)) (born_at was g p everything before go new_eras n e x env ms (λ m lv er. empty m) st.0),
+    subst (Keeps g p (record { known = known; cell = before; asks = asks_nothing }) n e env ms) (sym (child_none i)) (born_at was g p known before go new_eras n e x env ms (λ m lv er. empty m) st.0),
     items_begin is (i + 1) env (place p n e env ms).left st.1,
   )
 
@@ -147,7 +146,7 @@ module _ (was g : Graph) (p : Plan) (before : ℕ → Option Cell) (go : Goes wa
 pub first_afresh : (was g : Graph) (pr : Program) (p : Plan) (is : List LowItem) (ms : List ℕ) (sources : List Now) (before : ℕ → Option Cell)
     → AreLowered pr p is → IsEmpty was → Goes was g before → HasNodes g p is ms → IsSettled g p sources before → IsAfresh g pr p is ms sources kept.Nothing
 first_afresh was g pr p is ms sources before lowered empty go has settled =
-    let kp = items_begin was g p before go has.eras 2000 0 empty is 0 [] ms has.items in
+    let kp = items_begin was g p everything before go has.eras 2000 0 empty is 0 [] ms has.items in
     let few : 2000 ≤ 2001 = omega arith in
     record {
       shows = subst (λ b. Have g everything (place_items (body_walk p) [] is ms).parts (items (eval_to 2000 (world_of pr sources)) [] kept.Nothing 0 b).shown) (sym lowered.items)

@@ -9,5 +9,6 @@ mod Trees
 mod Clean
 mod Carry
 mod Front
-pub mod Items
+mod Items
+mod Errors
 mod Examples

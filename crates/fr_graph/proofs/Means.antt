@@ -1,13 +1,11 @@
 -- The run of a kernel of a sound plan gives the value of the expression that it was made from.
-use Rattle.std.proofs.Common.{◌≡◌, ◌≤◌, ◌-◌, ℕ, List, [], ◌++◌, map, length, slice_get, refl, ap, sym, ◌∙◌, subst, arith, Some}
+use Rattle.std.proofs.Common.{◌≡◌, ◌-◌, List, [], ◌++◌, map, ap, sym, ◌∙◌, subst, arith}
 use Rattle.fr_value.specs.declared.now.Now.{Now}
-use Rattle.fr_core.specs.declared.kept.Kept.{Kept}
 use Rattle.fr_core.specs.declared.kept.Kept.TheVariants as kept
 use Rattle.fr_core.specs.declared.program.Program.{Program}
-use Rattle.fr_meaning.specs.Words.{Seen}
 use Rattle.fr_meaning.specs.Evaluation.{world_of, eval_to}
 use Rattle.fr_kernel.specs.Answers.{world}
-use Rattle.fr_kernel.specs.Kernels.{Kernel, slot_seen, world_at}
+use Rattle.fr_kernel.specs.Kernels.{slot_seen, world_at}
 use Rattle.fr_kernel.specs.Numbers.{numbered}
 use Rattle.fr_kernel.specs.Placed.{scheme_for}
 use Rattle.fr_kernel.proofs.Numbers.{numbered_same}

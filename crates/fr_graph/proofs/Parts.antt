@@ -1,27 +1,15 @@
 -- Parts that have values.
-use Rattle.std.proofs.Common.{◌≡◌, ◌+◌, ◌⊎◌, inl, inr, ℕ, zero, suc, Bool, true, false, ◌&&◌, List, [], ◌∷◌, ◌++◌, map, length, slice_get, refl, ap, sym, ◌∙◌, subst, Option, Some, None, Result, Ok, Err}
+use Rattle.std.proofs.Common.{◌≡◌, inl, inr, ℕ, zero, suc, Bool, true, false, ◌&&◌, List, [], ◌∷◌, ◌++◌, length, slice_get, refl, ap, ◌∙◌}
 use Rattle.std.proofs.lemmas.Bool.{false≢true}
-use Rattle.fr_value.specs.declared.now.Now.{Now}
-use Rattle.fr_value.specs.declared.now.Bad.TheVariants.{Deep}
-use Rattle.fr_core.specs.declared.lowered.Slot.{Slot}
-use Rattle.fr_core.specs.declared.lowered.Slot.TheVariants as slot
-use Rattle.fr_meaning.specs.Words.{Seen, Env, found, part}
-use Rattle.fr_meaning.specs.Evaluation.{source_seen}
-use Rattle.fr_kernel.specs.Kernels.{slot_seen}
-use Rattle.fr_graph.specs.Graph.{Part, steady, signal, Kind, Graph, part_value, part_values}
-use Rattle.fr_graph.specs.Walk.{Plan, is_steady, all_steady, steady_value, steady_values, variable_part, slot_part, slot_parts}
-use Rattle.fr_graph.specs.Wired.{IsSource, SlotsStand}
-use Rattle.fr_graph.specs.Known.{Reads, IsKnown, Have}
+use Rattle.fr_meaning.specs.Words.{Seen, part}
+use Rattle.fr_graph.specs.Graph.{Part, steady, signal, Graph, part_value, part_values}
+use Rattle.fr_graph.specs.Walk.{all_steady, steady_values, variable_part}
+use Rattle.fr_graph.specs.Known.{Reads, IsKnown, AllKnown, Have}
 
 both_true : (a b : Bool) → a && b ≡ true → (a ≡ true) × (b ≡ true)
 both_true true true h = (refl, refl)
 both_true true false h = cc
 both_true false b h = cc
-
--- all of these are known
-abbrev pub AllKnown : (ℕ → Type 0) → List Part → Type 0
-AllKnown known [] = Unit {0}
-AllKnown known (p ∷ ps) = IsKnown known p × AllKnown known ps
 
 pub read_known : (known : ℕ → Type 0) (ps : List Part) → ((j : ℕ) → Reads j ps → known j) → AllKnown known ps
 read_known known [] h = tt

@@ -6,7 +6,7 @@ use Rattle.std.proofs.lemmas.List.{length-map, length-append, length_push}
 use Rattle.std.proofs.Math.Seq.{take-append_seam, drop-append_seam}
 use Rattle.fr_value.specs.declared.now.Now.{Now}
 use Rattle.fr_value.specs.declared.now.Bad.{Bad}
-use Rattle.fr_core.specs.Shapes.{outer, operator_takes, handler_parts, handler_binds}
+use Rattle.fr_core.specs.Shapes.{operator_takes, handler_parts, handler_binds}
 use Rattle.fr_core.specs.declared.core_form.Core.{Core, out-Core}
 use Rattle.fr_core.specs.declared.core_form.Core.TheOpen.{Core-F}
 use Rattle.fr_core.specs.declared.core_form.Core.TheVariants as core
@@ -26,16 +26,16 @@ use Rattle.fr_meaning.specs.Evaluation.{World, world_of, Ev, Parts, parts, chose
 use Rattle.fr_meaning.proofs.Levels.{evaluates}
 use Rattle.fr_kernel.specs.Kernels.{Kernels, slot_seen}
 use Rattle.fr_kernel.specs.Erasure.{erase, erase_step, kernel_expr}
-use Rattle.fr_graph.specs.Graph.{Part, steady, signal, Work, operates, handles, loops, runs, feeds, Kind, works, watch, result, Graph, part_value, part_values, kernel_call, work_line, is_plain, is_late}
-use Rattle.fr_graph.specs.Walk.{Plan, first, rest, Walk, Placed, AllPlaced, place_all, place_call, variable_part, slot_parts, low_body, place}
-use Rattle.fr_graph.specs.Wired.{IsNext, Unless, WorkStands, inputs_of, later_of, AllStand, Chosen, SwitchStands, CallStands, ShapeStands, Wired, EraStands}
+use Rattle.fr_graph.specs.Graph.{Part, steady, signal, Work, operates, handles, feeds, works, watch, Graph, part_value, kernel_call, work_line, is_plain, is_late}
+use Rattle.fr_graph.specs.Walk.{Plan, first, rest, Walk, AllPlaced, place_all, variable_part, slot_parts, low_body, place}
+use Rattle.fr_graph.specs.Wired.{Unless, WorkStands, later_of, AllStand, Chosen, SwitchStands, CallStands, ShapeStands, Wired, EraStands}
 use Rattle.fr_graph.specs.Keeps.{Asked, AllKeep, SwitchKeeps, CallKeeps, CellKeeps, ShapeKeeps, Keeps, asks_nothing, everything, HasKey, StandsFor}
-use Rattle.fr_graph.specs.Known.{Reads, IsClosed, IsKnown, Have, IsWatched, IsWorked, SettledOn, ErasStandOn, latch, IsLatched, HasEnded}
+use Rattle.fr_graph.specs.Known.{AllKnown, IsClosed, IsKnown, Have, IsWatched, IsWorked, SettledOn, ErasStandOn, latch, HasEnded}
 use Rattle.fr_graph.specs.Sound.{Sound, IsPlanOf, KernelsMean}
-use Rattle.fr_graph.proofs.Parts.{AllKnown, have_at, have_append, have_length, have_values}
+use Rattle.fr_graph.proofs.Parts.{have_at, have_append, have_length}
 use Rattle.fr_graph.proofs.Works.{operator_value, prompt_line, stands_next, node_line, node_rule, rule_on, work_clean}
 use Rattle.fr_graph.proofs.Calls.{handler_value, handler_next}
-use Rattle.fr_graph.proofs.Cells.{child_group, under_same, chose_key, CellFits, ReadsBack, reads_back, operator_fits, handler_fits}
+use Rattle.fr_graph.proofs.Cells.{child_group, under_same, chose_key, CellFits, reads_back, operator_fits, handler_fits}
 use Rattle.fr_graph.proofs.Inside.{erase-opens, SoundShape, sound_shape, AllSound, outer_sound, body_sound, all_length, bodies_match, low_sound}
 use Rattle.fr_graph.proofs.Values.{AgreesAt, values_on, all_on, slots_on, kernel_means}
 

@@ -1,12 +1,12 @@
 -- What stands for an expression has the value of its evaluation.
-use Rattle.std.proofs.Common.{◌≡◌, ◌≤◌, ◌+◌, ◌⊎◌, inl, inr, ℕ, zero, suc, Bool, true, false, List, [], ◌∷◌, ◌++◌, map, take, drop, length, slice_get, refl, ap, sym, ◌∙◌, subst, append-nil, arith, Option, Some, None, Result, Ok, Err}
+use Rattle.std.proofs.Common.{◌≡◌, ◌≤◌, ◌+◌, ℕ, zero, suc, Bool, true, false, List, [], ◌∷◌, ◌++◌, map, take, drop, length, slice_get, refl, ap, sym, ◌∙◌, subst, append-nil, arith, Option, Some, None, Result, Ok, Err}
 use Rattle.std.specs.Option.{option_map}
 use Rattle.std.proofs.lemmas.Bool.{false≢true}
 use Rattle.std.proofs.lemmas.List.{length-map, length-append}
 use Rattle.std.proofs.Math.Seq.{take-append_seam, drop-append_seam}
 use Rattle.fr_value.specs.declared.now.Now.{Now}
 use Rattle.fr_value.specs.declared.now.Bad.{Bad}
-use Rattle.fr_core.specs.Shapes.{outer, handler_parts, handler_binds, loop_binds}
+use Rattle.fr_core.specs.Shapes.{handler_parts, handler_binds, loop_binds}
 use Rattle.fr_core.specs.declared.core_form.Core.{Core, out-Core}
 use Rattle.fr_core.specs.declared.core_form.Core.TheOpen.{Core-F}
 use Rattle.fr_core.specs.declared.core_form.Core.TheVariants as core
@@ -16,24 +16,23 @@ use Rattle.fr_core.specs.declared.kept.Kept.{Kept}
 use Rattle.fr_core.specs.declared.kept.Kept.TheVariants as kept
 use Rattle.fr_core.specs.declared.lowered.Low.{Low, out-Low, map-Low}
 use Rattle.fr_core.specs.declared.lowered.Low.TheOpen.{Low-F}
-use Rattle.fr_core.specs.declared.lowered.LowFunction.{LowFunction}
 use Rattle.fr_core.specs.declared.lowered.Slot.{Slot}
 use Rattle.fr_core.specs.declared.lowered.Slot.TheVariants as slot
 use Rattle.fr_core.specs.declared.program.Program.{Program}
 use Rattle.fr_meaning.specs.Words.{Seen, Env, Done, part, on_ok, test_of}
 use Rattle.fr_meaning.specs.Cells.{Cell, child, under_key}
-use Rattle.fr_meaning.specs.States.{of_operator, of_handler, of_feedback, fed, no_call, state_now, beside, state_next}
+use Rattle.fr_meaning.specs.States.{of_operator, of_handler, of_feedback, fed, state_now, state_next}
 use Rattle.fr_meaning.specs.Evaluation.{World, world_of, Ev, parts, source_seen, chosen_by, switch_done, call_done, body_for, handler, body_with, rounds, form_cell, behind_cell, layer, eval_to}
 use Rattle.fr_meaning.proofs.Levels.{evaluates}
-use Rattle.fr_kernel.specs.Kernels.{Kernels, Kernel, slot_seen}
-use Rattle.fr_kernel.specs.Erasure.{erase, erase_step, erased_function, kernel_expr, expr_in, Fits}
-use Rattle.fr_graph.specs.Graph.{Part, steady, signal, Work, operates, handles, loops, runs, feeds, Kind, source, works, watch, result, Graph, part_value, part_values, kernel_run, kernel_call, work_line, is_plain}
-use Rattle.fr_graph.specs.Walk.{Plan, first, rest, Walk, Placed, AllPlaced, place_all, place_switch, place_chosen, place_call, slot_parts, variable_part, low_body, place_shape, place}
-use Rattle.fr_graph.specs.Wired.{IsNext, AreNext, Unless, WorkStands, IsSource, SlotsStand, AllStand, Chosen, SwitchStands, CallStands, ShapeStands, Wired, EraStands}
+use Rattle.fr_kernel.specs.Kernels.{Kernels, slot_seen}
+use Rattle.fr_kernel.specs.Erasure.{erase, erase_step, kernel_expr, expr_in, Fits}
+use Rattle.fr_graph.specs.Graph.{Part, steady, signal, operates, handles, loops, runs, feeds, Kind, works, watch, result, Graph, part_value, kernel_run, kernel_call, work_line}
+use Rattle.fr_graph.specs.Walk.{Plan, first, rest, Walk, Placed, AllPlaced, place_all, place_switch, place_chosen, place_call, slot_parts, low_body, place_shape, place}
+use Rattle.fr_graph.specs.Wired.{Unless, IsSource, SlotsStand, AllStand, Chosen, SwitchStands, CallStands, ShapeStands, Wired, EraStands}
 use Rattle.fr_graph.specs.Keeps.{Asked, AllKeep, SwitchKeeps, CallKeeps, CellKeeps, ShapeKeeps, Keeps, asks_nothing}
 use Rattle.fr_graph.specs.Known.{Reads, IsClosed, IsKnown, Have, IsWatched, IsFed, IsWorked, Rule, SettledOn, ErasStandOn}
 use Rattle.fr_graph.specs.Sound.{Sound, IsPlanOf, AreAlike, KernelsMean}
-use Rattle.fr_graph.proofs.Parts.{AllKnown, read_known, have_at, have_append, have_length}
+use Rattle.fr_graph.proofs.Parts.{read_known, have_at, have_append, have_length}
 use Rattle.fr_graph.proofs.Works.{beside_value, operator_value, rule_on, inputs_on, work_value}
 use Rattle.fr_graph.proofs.Calls.{handler_value, loop_value}
 use Rattle.fr_graph.proofs.Inside.{erase-opens, SoundShape, sound_shape, AllSound, outer_sound, body_sound, all_length, bodies_match, low_sound}

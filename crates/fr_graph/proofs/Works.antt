@@ -1,5 +1,5 @@
 -- The value of what stands for a work.
-use Rattle.std.proofs.Common.{◌≡◌, ◌+◌, ◌-◌, ◌⊎◌, inl, inr, ℕ, zero, suc, Bool, true, false, ◌&&◌, if◌then◌else◌, List, [], ◌∷◌, ◌++◌, map, length, slice_get, refl, ap, sym, ◌∙◌, subst, Option, Some, None, Result, Ok, Err}
+use Rattle.std.proofs.Common.{◌≡◌, ℕ, Bool, true, false, ◌&&◌, if◌then◌else◌, List, [], ◌∷◌, refl, ap, sym, ◌∙◌, subst, Option, None, Result, Ok, Err}
 use Rattle.std.proofs.lemmas.Bool.{false≢true}
 use Rattle.fr_value.specs.declared.now.Now.{Now}
 use Rattle.fr_value.specs.declared.now.Bad.{Bad}
@@ -9,11 +9,11 @@ use Rattle.fr_meaning.specs.Words.{Seen, occurs, part}
 use Rattle.fr_meaning.specs.Cells.{Cell}
 use Rattle.fr_meaning.specs.States.{gives, beside, base_of, plain_or_bad, occurrence, state_next, of_operator, no_call, state_now}
 use Rattle.fr_kernel.specs.Kernels.{Kernels}
-use Rattle.fr_graph.specs.Graph.{Part, steady, signal, Work, operates, handles, loops, runs, feeds, Kind, works, Graph, part_value, part_values, IsClean, operator_early, work_line, is_plain, is_late}
-use Rattle.fr_graph.specs.Walk.{Plan, first, rest, by_value, by_next, all_steady, steady_values, place_work}
+use Rattle.fr_graph.specs.Graph.{Part, Work, operates, handles, loops, runs, feeds, Kind, works, Graph, part_value, part_values, IsClean, operator_early, work_line, is_plain, is_late}
+use Rattle.fr_graph.specs.Walk.{Plan, first, by_value, by_next, all_steady, steady_values, place_work}
 use Rattle.fr_graph.specs.Wired.{IsNext, inputs_of, later_of, Either, WorkStands}
-use Rattle.fr_graph.specs.Known.{Reads, IsClosed, IsKnown, Have, IsWorked, Rule, SettledOn}
-use Rattle.fr_graph.proofs.Parts.{AllKnown, read_known, have_values, have_steady}
+use Rattle.fr_graph.specs.Known.{AllKnown, Reads, IsClosed, IsKnown, Have, IsWorked, Rule, SettledOn}
+use Rattle.fr_graph.proofs.Parts.{read_known, have_values, have_steady}
 
 both_true : (a b : Bool) → a && b ≡ true → (a ≡ true) × (b ≡ true)
 both_true true true h = (refl, refl)

@@ -1,6 +1,5 @@
 -- Where a node stands in a walk while an instant is under way, and what it is for a node to err.
-use Rattle.std.specs.Prelude.{◌≡◌, ◌⊎◌, ℕ, zero, suc, Bool, true, false, ◌&&◌, List, [], ◌∷◌, ◌++◌, length, slice_get, Option, None, Some, Result, Ok, Err}
-use Rattle.fr_value.specs.declared.now.Bad.{Bad}
+use Rattle.std.specs.Prelude.{◌≡◌, ◌⊎◌, ℕ, zero, suc, Bool, ◌&&◌, List, [], ◌∷◌, ◌++◌, length, slice_get, Option, None, Some, Ok}
 use Rattle.fr_core.specs.declared.lowered.Low.{Low, out-Low}
 use Rattle.fr_core.specs.declared.lowered.Low.TheOpen.{Low-F}
 use Rattle.fr_core.specs.declared.lowered.LowItem.{LowItem}
@@ -8,7 +7,7 @@ use Rattle.fr_core.specs.declared.lowered.LowItem.TheVariants as low_item
 use Rattle.fr_meaning.specs.Words.{test_of}
 use Rattle.fr_meaning.specs.Cells.{Cell}
 use Rattle.fr_kernel.specs.Kernels.{Kernels}
-use Rattle.fr_graph.specs.Graph.{Part, steady, signal, Work, operates, handles, loops, runs, Kind, source, works, watch, result, Graph, part_value, part_values, IsClean, work_line, is_plain}
+use Rattle.fr_graph.specs.Graph.{Part, steady, signal, Work, operates, handles, loops, runs, Kind, works, watch, Graph, part_value, part_values, IsClean, work_line, is_plain}
 use Rattle.fr_graph.specs.Walk.{Plan, first, rest, Walk, AllPlaced, place_all, all_steady, slot_parts, low_body, place}
 use Rattle.fr_graph.specs.Wired.{Standing, Either, Chosen}
 

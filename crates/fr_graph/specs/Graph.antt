@@ -1,8 +1,6 @@
 -- The graph of signals, as functions of a node's number.
-use Rattle.std.specs.Prelude.{◌≡◌, ℕ, suc, Bool, true, false, ◌&&◌, List, [], ◌∷◌, ◌++◌, map, take, drop, slice_get, Option, Some, None, Result, Ok, Err}
-use Rattle.fr_value.specs.declared.now.Bad.{Bad}
+use Rattle.std.specs.Prelude.{◌≡◌, ℕ, suc, Bool, true, false, List, [], ◌++◌, map, take, drop, slice_get, Option, Some, None, Err}
 use Rattle.fr_value.specs.declared.now.Bad.TheVariants.{Deep}
-use Rattle.fr_core.specs.declared.core_form.Core.{Core}
 use Rattle.fr_core.specs.declared.core_form.Operator.{Operator}
 use Rattle.fr_core.specs.declared.core_form.Operator.TheVariants as operator
 use Rattle.fr_core.specs.declared.core_form.Handler.{Handler}
@@ -10,10 +8,10 @@ use Rattle.fr_core.specs.declared.core_form.Loop.{Loop}
 use Rattle.fr_core.specs.declared.kept.Kept.TheVariants as kept
 use Rattle.fr_core.specs.declared.lowered.Low.{Low}
 use Rattle.fr_core.specs.Shapes.{handler_parts}
-use Rattle.fr_meaning.specs.Words.{Seen, Env, Done, own, part}
+use Rattle.fr_meaning.specs.Words.{Seen, Done, own, part}
 use Rattle.fr_meaning.specs.Cells.{Cell}
 use Rattle.fr_meaning.specs.States.{Line, gives, Call, of_operator, of_handler, fed, base_of, refusal_in, refused_by, early_value, no_call, state_now}
-use Rattle.fr_meaning.specs.Evaluation.{World, Turns, all_turns, rounds, eval_to}
+use Rattle.fr_meaning.specs.Evaluation.{Turns, all_turns, rounds, eval_to}
 use Rattle.fr_kernel.specs.Kernels.{Kernels, Kernel, world_at}
 use Rattle.fr_kernel.specs.Placed.{scheme_for}
 use Rattle.fr_kernel.specs.Numbers.{numbered}

@@ -3,7 +3,6 @@ use Rattle.std.specs.Prelude.{◌≡◌, ℕ, ◌+◌, List, [], ◌∷◌, ◌+
 use Rattle.fr_value.specs.declared.now.Now.{Now}
 use Rattle.fr_core.specs.declared.kept.Kept.{Kept}
 use Rattle.fr_core.specs.declared.kept.Kept.TheVariants as kept
-use Rattle.fr_core.specs.declared.lowered.Low.{Low}
 use Rattle.fr_core.specs.declared.lowered.LowItem.{LowItem}
 use Rattle.fr_core.specs.declared.lowered.LowItem.TheVariants as low_item
 use Rattle.fr_core.specs.declared.program.Program.{Program}
@@ -14,9 +13,10 @@ use Rattle.fr_kernel.specs.Kernels.{Kernels}
 use Rattle.fr_graph.specs.Graph.{Part, Graph}
 use Rattle.fr_graph.specs.Walk.{Plan, Walk, place}
 use Rattle.fr_graph.specs.Wired.{Standing, Wired}
-use Rattle.fr_graph.specs.Keeps.{Asked, Keeping, Keeps, everything, HasKey}
-use Rattle.fr_graph.specs.Known.{Have, SettledOn, ErasStandOn, HasEnded}
+use Rattle.fr_graph.specs.Keeps.{Keeping, Keeps, everything, HasKey}
+use Rattle.fr_graph.specs.Known.{IsClosed, AllKnown, Have, SettledOn, ErasStandOn, HasEnded}
 use Rattle.fr_graph.specs.Sound.{Sound, IsPlanOf}
+use Rattle.fr_graph.specs.Front.{ItemsOccur, Occurs, Errs}
 
 -- what stands for the shows among items, and the members that are left
 pub record Shown : Type 0 where
@@ -82,3 +82,16 @@ pub record IsAfresh (g : Graph) (pr : Program) (p : Plan) (is : List LowItem) (m
   pub shows : ShowsBody g pr p is ms sources k
   pub errless : (body pr sources k).first ≡ None
   pub stands : StandsForTree g p is ms (kept.Group (body pr sources k).kepts)
+
+-- an instant is under way: the nodes of the items stand, and of the known ones, whose inputs and watches are known, each obeys its rule, and the era of each known watch stands
+pub record IsUnderWay (g : Graph) (known : ℕ → Type 0) (p : Plan) (is : List LowItem) (ms : List ℕ) (sources : List Now) (before : ℕ → Option Cell) : Type 0 where
+  pub items : ItemsStand (body_walk p) (Wired g p 0 2000) [] is ms
+  pub closed : IsClosed g known
+  pub rules : SettledOn g known p.table sources before
+  pub eras : ErasStandOn g known p
+
+-- a node that stands in the walk of the items errs on the values of its inputs, which are known
+pub record ErrsThere (g : Graph) (known : ℕ → Type 0) (p : Plan) (is : List LowItem) (ms : List ℕ) (before : ℕ → Option Cell) (m : ℕ) : Type 0 where
+  pub occurs : ItemsOccur (body_walk p) (Occurs g p known m 2000) [] is ms
+  pub inputs : AllKnown known (g.inputs m)
+  pub errs : Errs g p.table before m (g.kind m) (g.inputs m)

@@ -10,7 +10,7 @@ use Rattle.fr_meaning.specs.Words.{test_of}
 use Rattle.fr_meaning.specs.Cells.{Cell, child, under_key}
 use Rattle.fr_meaning.specs.States.{StateForm, of_operator, of_handler, of_feedback}
 use Rattle.fr_meaning.specs.Evaluation.{form_cell, behind_cell}
-use Rattle.fr_graph.specs.Graph.{Part, steady, signal, Work, operates, handles, Graph, is_plain}
+use Rattle.fr_graph.specs.Graph.{Part, steady, signal, operates, Graph, is_plain}
 use Rattle.fr_graph.specs.Walk.{Plan, first, rest, Walk, AllPlaced, place_all, low_body, place}
 use Rattle.fr_graph.specs.Wired.{Unless, Chosen}
 

@@ -6,7 +6,7 @@ use Rattle.fr_value.specs.declared.now.Bad.TheVariants.{Deep}
 use Rattle.fr_core.specs.declared.core_form.Operator.TheVariants as operator
 use Rattle.fr_meaning.specs.States.{datum_next, payload_next}
 use Rattle.fr_core.specs.declared.lowered.Low.{Low}
-use Rattle.fr_meaning.specs.Words.{Seen, Env, datum_in, event_of, test_of}
+use Rattle.fr_meaning.specs.Words.{Seen, datum_in, event_of, test_of}
 use Rattle.fr_meaning.specs.Cells.{Cell}
 use Rattle.fr_kernel.specs.Kernels.{Kernels}
 use Rattle.fr_graph.specs.Graph.{Part, steady, signal, Work, operates, feeds, Kind, source, works, watch, result, Graph, part_value, part_values, IsClean, work_line, is_late}
@@ -28,6 +28,11 @@ pub record IsClosed (g : Graph) (known : ℕ → Type 0) : Type 0 where
 abbrev pub IsKnown : (ℕ → Type 0) → Part → Type 0
 IsKnown known (steady v) = Unit {0}
 IsKnown known (signal m) = known m
+
+-- all of these are known
+abbrev pub AllKnown : (ℕ → Type 0) → List Part → Type 0
+AllKnown known [] = Unit {0}
+AllKnown known (p ∷ ps) = IsKnown known p × AllKnown known ps
 
 -- the known ones among parts have these values
 abbrev pub Have : Graph → (ℕ → Type 0) → List Part → List Seen → Type 0

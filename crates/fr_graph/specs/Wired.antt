@@ -1,7 +1,6 @@
 -- Which nodes stand where a walk finds the members of an expression.
-use Rattle.std.specs.Prelude.{◌≡◌, ℕ, zero, suc, ◌<◌, Bool, true, false, ◌&&◌, List, [], ◌∷◌, ◌++◌, map, take, length, slice_get, Option, Some, None, Result, Ok, Err}
+use Rattle.std.specs.Prelude.{◌≡◌, ℕ, zero, suc, ◌<◌, Bool, true, false, ◌&&◌, List, [], ◌∷◌, ◌++◌, take, length, slice_get, Option, Some, None, Result, Ok, Err}
 use Rattle.fr_value.specs.declared.now.Bad.{Bad}
-use Rattle.fr_core.specs.declared.core_form.Operator.{Operator}
 use Rattle.fr_core.specs.declared.core_form.Operator.TheVariants as operator
 use Rattle.fr_core.specs.declared.lowered.Low.{Low, out-Low}
 use Rattle.fr_core.specs.declared.lowered.Low.TheOpen.{Low-F}
@@ -9,7 +8,7 @@ use Rattle.fr_core.specs.declared.lowered.Slot.{Slot}
 use Rattle.fr_core.specs.declared.lowered.Slot.TheVariants as slot
 use Rattle.fr_meaning.specs.Words.{test_of}
 use Rattle.fr_graph.specs.Graph.{Part, steady, signal, Work, operates, handles, loops, runs, feeds, Kind, source, works, watch, result, Graph, IsClean, work_line, is_plain}
-use Rattle.fr_graph.specs.Walk.{Plan, first, rest, Walk, Placed, AllPlaced, place_all, all_steady, steady_values, slot_parts, low_body, place}
+use Rattle.fr_graph.specs.Walk.{Plan, first, rest, Walk, AllPlaced, place_all, all_steady, steady_values, slot_parts, low_body, place}
 
 -- a node of this era and kind, with these inputs and so many levels below its expression, is the next member
 pub record IsNext (g : Graph) (x n : ℕ) (k : Kind) (ins : List Part) (behind : Option Part) (ms : List ℕ) : Type 0 where

@@ -1,14 +1,15 @@
-ghost use Rattle.std.specs.Prelude.{ℕ, List, Option};
+ghost use Rattle.std.specs.Prelude.{◌≡◌, ℕ, Bool, true, List, Option, None};
 ghost use Rattle.fr_value.specs.declared.now.Now.{Now};
 ghost use Rattle.fr_core.specs.declared.kept.Kept.{Kept};
 ghost use Rattle.fr_core.specs.declared.kept.Kept.TheVariants as kept;
 ghost use Rattle.fr_core.specs.declared.lowered.LowItem.{LowItem};
 ghost use Rattle.fr_core.specs.declared.program.Program.{Program};
+ghost use Rattle.fr_meaning.specs.Afresh.{body};
 ghost use Rattle.fr_meaning.specs.Cells.{Cell};
 ghost use Rattle.fr_graph.specs.Graph.{Graph};
 ghost use Rattle.fr_graph.specs.Walk.{Plan};
 ghost use Rattle.fr_graph.specs.Goes.{Goes, IsEmpty};
-ghost use Rattle.fr_graph.specs.Items.{AreLowered, HasNodes, IsSettled, StandsForTree, IsAfresh};
+ghost use Rattle.fr_graph.specs.Items.{AreLowered, HasNodes, IsSettled, StandsForTree, IsAfresh, IsUnderWay, ErrsThere};
 
 /// A graph shows at the end of each instant what evaluating the program's body afresh shows, which errs nowhere, and
 /// stands for what that keeps: at the first instant over nothing kept, and at each further one over every tree for which
@@ -21,4 +22,16 @@ pub fn instants_are_afresh()
         → AreLowered pr p is → IsEmpty was → Goes was g before → HasNodes g p is ms → IsSettled g p sources before → IsAfresh g pr p is ms sources kept.Nothing }
     ensures further { (was g : Graph) (pr : Program) (p : Plan) (is : List LowItem) (ms : List ℕ) (sources : List Now) (before : ℕ → Option Cell) (k : Kept)
         → AreLowered pr p is → Goes was g before → HasNodes was p is ms → HasNodes g p is ms → IsSettled g p sources before → StandsForTree was p is ms k → IsAfresh g pr p is ms sources k }
+{}
+
+/// Where a node errs while an instant is under way, on the values of inputs that are known to be right, evaluating the
+/// program's body afresh errs: at the first instant over nothing kept, and at each further one over every tree for which
+/// the graph stood before.
+pub fn errors_are_those_of_evaluating_afresh()
+    ensures first { (was g : Graph) (known : ℕ → Bool) (pr : Program) (p : Plan) (is : List LowItem) (ms : List ℕ) (sources : List Now) (before : ℕ → Option Cell) (m : ℕ)
+        → AreLowered pr p is → IsEmpty was → Goes was g before → IsUnderWay g (λ n. known n ≡ true) p is ms sources before → ErrsThere g (λ n. known n ≡ true) p is ms before m
+        → (body pr sources kept.Nothing).first ≡ None → ⊥ }
+    ensures further { (was g : Graph) (known : ℕ → Bool) (pr : Program) (p : Plan) (is : List LowItem) (ms : List ℕ) (sources : List Now) (before : ℕ → Option Cell) (m : ℕ) (k : Kept)
+        → AreLowered pr p is → Goes was g before → HasNodes was p is ms → IsUnderWay g (λ n. known n ≡ true) p is ms sources before → ErrsThere g (λ n. known n ≡ true) p is ms before m → StandsForTree was p is ms k
+        → (body pr sources k).first ≡ None → ⊥ }
 {}

@@ -3,4 +3,4 @@
 
 mod laws;
 
-pub use laws::instants_are_afresh;
+pub use laws::{errors_are_those_of_evaluating_afresh, instants_are_afresh};
