@@ -1,11 +1,12 @@
 -- The law of the front: where a node errs whose inputs are known, evaluating afresh errs.
 use Rattle.std.proofs.Common.{◌≡◌, ◌≤◌, ◌+◌, ◌&&◌, inl, inr, ℕ, zero, suc, Bool, true, false, List, [], ◌∷◌, ◌++◌, map, take, drop, length, slice_get, refl, ap, sym, ◌∙◌, subst, append-nil, arith, Option, Some, None, Result, Ok, Err}
 use Rattle.std.specs.Option.{option_map, option_or}
+use Rattle.std.proofs.lemmas.Bool.{false≢true}
 use Rattle.std.proofs.lemmas.List.{length-map, length-append}
 use Rattle.std.proofs.Math.Seq.{take-append_seam, drop-append_seam}
 use Rattle.fr_value.specs.declared.now.Now.{Now}
 use Rattle.fr_value.specs.declared.now.Bad.{Bad}
-use Rattle.fr_core.specs.Shapes.{handler_parts, handler_binds, loop_binds}
+use Rattle.fr_core.specs.Shapes.{operator_takes, handler_parts, handler_binds, loop_binds}
 use Rattle.fr_core.specs.declared.core_form.Core.{Core, out-Core}
 use Rattle.fr_core.specs.declared.core_form.Core.TheOpen.{Core-F}
 use Rattle.fr_core.specs.declared.core_form.Core.TheVariants as core
@@ -26,17 +27,18 @@ use Rattle.fr_meaning.specs.Evaluation.{World, world_of, Ev, Parts, parts, join_
 use Rattle.fr_meaning.proofs.Levels.{evaluates}
 use Rattle.fr_kernel.specs.Kernels.{Kernels, slot_seen}
 use Rattle.fr_kernel.specs.Erasure.{erase, erase_step, kernel_expr}
-use Rattle.fr_graph.specs.Graph.{Part, steady, signal, Work, operates, handles, loops, runs, feeds, works, watch, Graph, part_value, part_values, kernel_run, kernel_call, IsClean, operator_early, work_line, is_plain}
-use Rattle.fr_graph.specs.Walk.{Plan, first, rest, Walk, AllPlaced, place_all, all_steady, steady_values, slot_parts, low_body, place}
+use Rattle.fr_graph.specs.Graph.{Part, steady, signal, Work, operates, handles, loops, runs, feeds, works, watch, Graph, part_value, part_values, kernel_run, kernel_call, IsClean, operator_early, work_line, is_plain, is_late}
+use Rattle.fr_graph.specs.Walk.{Plan, first, rest, Walk, AllPlaced, place_all, all_steady, steady_values, variable_part, slot_parts, low_body, place}
 use Rattle.fr_graph.specs.Wired.{IsNext, inputs_of, later_of, Either, Unless, WorkStands, AllStand, Chosen, SwitchStands, CallStands, ShapeStands, Wired, EraStands}
 use Rattle.fr_graph.specs.Keeps.{Asked, AllKeep, SwitchKeeps, CallKeeps, ShapeKeeps, Keeps, asks_nothing}
-use Rattle.fr_graph.specs.Known.{AllKnown, IsClosed, IsKnown, Have, IsWatched, SettledOn, ErasStandOn}
+use Rattle.fr_graph.specs.Known.{AllKnown, IsClosed, IsKnown, Have, IsWatched, SettledOn, ErasStandOn, latch}
 use Rattle.fr_graph.specs.Sound.{Sound, IsPlanOf, KernelsMean}
-use Rattle.fr_graph.specs.Front.{AnyOccurs, WorkOccurs, SwitchOccurs, CallOccurs, ShapeOccurs, Occurs, Errs}
-use Rattle.fr_graph.proofs.Parts.{have_append, have_length}
-use Rattle.fr_graph.proofs.Works.{input_line, rule_on, inputs_on}
+use Rattle.fr_graph.specs.Front.{AnyOccurs, WorkOccurs, SwitchOccurs, CallOccurs, ShapeOccurs, Occurs, IsTaken, Latches, Errs}
+use Rattle.fr_graph.proofs.Parts.{have_at, have_append, have_length}
+use Rattle.fr_graph.proofs.Works.{stands_next, input_line, rule_on, inputs_on}
 use Rattle.fr_graph.proofs.Calls.{handler_clean, loop_clean, loop_value, none_left, none_right, none_under}
 use Rattle.fr_graph.proofs.Inside.{erase-opens, SoundShape, sound_shape, AllSound, outer_sound, body_sound, all_length, bodies_match, low_sound}
+use Rattle.fr_graph.proofs.Trees.{late_part, late_next, late_there}
 use Rattle.fr_graph.proofs.Values.{AgreesAt, values_on, all_on, slots_on, kernel_means}
 
 -- a line of an evaluation that errs nowhere is clean
@@ -105,9 +107,35 @@ unfolding eval_to
 value_good zero w e env k h = absurd cc
 value_good (suc n) w e env k h = layer_good w (eval_to n w) env k (out-Core e) h
 
+-- what a clean late line takes isn't refused
+
+beside_taken : (v : Seen) (r : Result Cell Bad) → IsClean (beside v r) → IsTaken r
+beside_taken v (Ok c) h = tt
+beside_taken v (Err b) h = let e = h.refusal in absurd cc
+
+late_taken : (o : Operator) (c : Option Cell) (xs : List Seen) → is_late (operates o) ≡ true → IsClean (state_now (of_operator o) c xs no_call) → IsTaken (state_next (of_operator o) xs)
+late_taken operator.Delay c xs late h = beside_taken (early_value (of_operator operator.Delay) c xs) (state_next (of_operator operator.Delay) xs) h
+late_taken operator.DelayE c xs late h = beside_taken (early_value (of_operator operator.DelayE) c xs) (state_next (of_operator operator.DelayE) xs) h
+late_taken (operator.Prim r) c xs late h = absurd (false≢true late)
+late_taken operator.MergeE c xs late h = absurd (false≢true late)
+late_taken operator.Hold c xs late h = absurd (false≢true late)
+late_taken operator.Changes c xs late h = absurd (false≢true late)
+late_taken operator.OnceE c xs late h = absurd (false≢true late)
+
+fed_taken : (r : Option Bad) (v : Seen) (s : Result Cell Bad) → option_or r (beside v s).refusal ≡ None → IsTaken s
+fed_taken r v (Ok c) h = tt
+fed_taken r v (Err b) h = let e = none_after r (Some b) h in absurd cc
+  where
+    none_after : (r s : Option Bad) → option_or r s ≡ None → s ≡ None
+    none_after None s h = h
+    none_after (Some b) s h = cc
+
+same_part : (a b : Part) → Path (Option Part) (Some a) (Some b) → a ≡ b
+same_part a b e = cc
+
 module _ (g : Graph) (known : ℕ → Type 0) (p : Plan) (pr : Program) (plan : IsPlanOf pr p) (sources : List Now) (before : ℕ → Option Cell)
     (closed : IsClosed g known) (settled : SettledOn g known p.table sources before) (eras : ErasStandOn g known p) (means : KernelsMean p pr sources)
-    (m : ℕ) (inputs : AllKnown known (g.inputs m)) (errs : Errs g p.table before m (g.kind m) (g.inputs m)) where
+    (m : ℕ) (inputs : AllKnown known (g.inputs m)) (errs : Errs g known p.table before m (g.kind m) (g.inputs m)) where
   abbrev t : Kernels
   t = p.table
 
@@ -130,31 +158,44 @@ module _ (g : Graph) (known : ℕ → Type 0) (p : Plan) (pr : Program) (plan : 
 
   -- the node of a work errs on the values of all its parts
   node_errs : (x n : ℕ) (wk : Work) (ps : List Part) (us : List Seen) (ms : List ℕ) (c : Option Cell) (later : Option Part) → m ≡ first ms → IsNext g x n (works wk) (inputs_of wk ps) later ms
-      → Have g known ps us → before (first ms) ≡ c → IsClean (work_line t n wk c us) → ⊥
-  node_errs x n wk ps us ms c later is st have cell clean =
+      → Have g known ps us → before (first ms) ≡ c → Latches g known m wk → IsClean (work_line t n wk c us) → ⊥
+  node_errs x n wk ps us ms c later is st have cell takes clean =
       let kind : g.kind m ≡ works wk = ap g.kind is ∙ st.kind in
       let ins : g.inputs m ≡ inputs_of wk ps = ap g.inputs is ∙ st.inputs in
-      let here = subst (λ j. Errs g t before m j (inputs_of wk ps)) kind (subst (λ l. Errs g t before m (g.kind m) l) ins errs) in
+      let here = subst (λ j. Errs g known t before m j (inputs_of wk ps)) kind (subst (λ l. Errs g known t before m (g.kind m) l) ins errs) in
       let line : work_line t (g.level m) wk (before m) (part_values g (inputs_of wk ps)) ≡ work_line t n wk c us
       = ap (λ j. work_line t j wk (before m) (part_values g (inputs_of wk ps))) (ap g.level is ∙ st.level)
       ∙ ap (λ o. work_line t n wk o (part_values g (inputs_of wk ps))) (ap before is ∙ cell)
       ∙ input_line g known t n wk c ps us have (subst (AllKnown known) ins inputs) in
-      here (subst IsClean (sym line) clean)
+      here (subst IsClean (sym line) clean) takes
+
+  plain_latches : (wk : Work) → is_plain wk ≡ true → Latches g known m wk
+  plain_latches (operates (operator.Prim r)) plain = λ late. absurd (false≢true late)
+  plain_latches (operates operator.MergeE) plain = absurd (false≢true plain)
+  plain_latches (operates operator.Hold) plain = absurd (false≢true plain)
+  plain_latches (operates operator.Changes) plain = absurd (false≢true plain)
+  plain_latches (operates operator.OnceE) plain = absurd (false≢true plain)
+  plain_latches (operates operator.Delay) plain = absurd (false≢true plain)
+  plain_latches (operates operator.DelayE) plain = absurd (false≢true plain)
+  plain_latches (handles h id) plain = absurd (false≢true plain)
+  plain_latches (loops l id) plain = λ late. absurd (false≢true late)
+  plain_latches (runs id) plain = λ late. absurd (false≢true late)
+  plain_latches feeds plain = absurd (false≢true plain)
 
   -- a plain work has no cell
-  plain_errs : (x n : ℕ) (wk : Work) (ps : List Part) (us : List Seen) (ms : List ℕ) → ((c : Option Cell) → work_line t n wk c us ≡ work_line t n wk None us) → WorkStands g p x n wk ps ms → WorkOccurs m wk ps ms
+  plain_errs : (x n : ℕ) (wk : Work) (ps : List Part) (us : List Seen) (ms : List ℕ) → is_plain wk ≡ true → ((c : Option Cell) → work_line t n wk c us ≡ work_line t n wk None us) → WorkStands g p x n wk ps ms → WorkOccurs m wk ps ms
       → Have g known ps us → IsClean (work_line t n wk None us) → ⊥
-  plain_errs x n wk ps us ms any st oc have clean = by_steady (is_plain wk && all_steady ps) st oc
+  plain_errs x n wk ps us ms plain any st oc have clean = by_steady (is_plain wk && all_steady ps) st oc
     where
       by_steady : (b : Bool) → Either b (IsClean (work_line t n wk None (steady_values ps))) (IsNext g x n (works wk) (inputs_of wk ps) (later_of wk ps) ms) → Either b ⊥ (m ≡ first ms) → ⊥
       by_steady true st oc = oc
-      by_steady false st oc = node_errs x n wk ps us ms (before (first ms)) (later_of wk ps) oc st have refl (subst IsClean (sym (any (before (first ms)))) clean)
+      by_steady false st oc = node_errs x n wk ps us ms (before (first ms)) (later_of wk ps) oc st have refl (plain_latches wk plain) (subst IsClean (sym (any (before (first ms)))) clean)
 
   other_errs : (x n : ℕ) (wk : Work) (ps : List Part) (us : List Seen) (ms : List ℕ) (c : Option Cell) → is_plain wk ≡ false → WorkStands g p x n wk ps ms → WorkOccurs m wk ps ms
-      → Have g known ps us → before (first ms) ≡ c → IsClean (work_line t n wk c us) → ⊥
-  other_errs x n wk ps us ms c plain st oc have cell clean =
+      → Have g known ps us → before (first ms) ≡ c → Latches g known m wk → IsClean (work_line t n wk c us) → ⊥
+  other_errs x n wk ps us ms c plain st oc have cell takes clean =
       node_errs x n wk ps us ms c (later_of wk ps) (subst (λ b. Either (b && all_steady ps) ⊥ (m ≡ first ms)) plain oc)
-      (subst (λ b. Either (b && all_steady ps) (IsClean (work_line t n wk None (steady_values ps))) (IsNext g x n (works wk) (inputs_of wk ps) (later_of wk ps) ms)) plain st) have cell clean
+      (subst (λ b. Either (b && all_steady ps) (IsClean (work_line t n wk None (steady_values ps))) (IsNext g x n (works wk) (inputs_of wk ps) (later_of wk ps) ms)) plain st) have cell takes clean
 
   module _ (n : ℕ) (few : suc n ≤ 2001) (ih : FrontAt n) (x : ℕ) (env : List Part) (vs : Env) (en : Have g known env vs) where
     below : n ≤ 2001
@@ -219,7 +260,7 @@ module _ (g : Graph) (known : ℕ → Type 0) (p : Plan) (pr : Program) (plan : 
     watch_front a b i ms k d r is st h =
         let kind : g.kind m ≡ watch a b env = ap g.kind is ∙ st.kind in
         let ins : g.inputs m ≡ signal i ∷ [] = ap g.inputs is ∙ st.inputs in
-        let here = subst (λ j. Errs g t before m j (signal i ∷ [])) kind (subst (λ l. Errs g t before m (g.kind m) l) ins errs) in
+        let here = subst (λ j. Errs g known t before m j (signal i ∷ [])) kind (subst (λ l. Errs g known t before m (g.kind m) l) ins errs) in
         by_test (test_of d.value) (ap test_of (r (subst (AllKnown known) ins inputs).0)) here h
       where
         by_test : (o : Result Bool Bad) → test_of (part_value g (signal i)) ≡ o → ((holds : Bool) → test_of (part_value g (signal i)) ≡ Ok holds → ⊥)
@@ -257,15 +298,28 @@ module _ (g : Graph) (known : ℕ → Type 0) (p : Plan) (pr : Program) (plan : 
     call_parts k j ps None h = none_left ps.first _ h
     call_parts k j ps (Some body) h = none_left ps.first _ (none_left _ _ h)
 
-    operator_front : (o : Operator) (ps : List Part) (us : List Seen) (ms : List ℕ) (c : Option Cell) → WorkStands g p x n (operates o) ps ms → WorkOccurs m (operates o) ps ms → Have g known ps us
+    -- the cell of a late operator takes its last part's value where the operator's line is clean
+    late_latches : (o : Operator) (ps : List Part) (us : List Seen) (ms : List ℕ) (c : Option Cell) → is_plain (operates o) ≡ false → is_late (operates o) ≡ true → operator_takes o (length ps) ≡ true
+        → WorkStands g p x n (operates o) ps ms → WorkOccurs m (operates o) ps ms → Have g known ps us → IsClean (state_now (of_operator o) c us no_call) → Latches g known m (operates o)
+    late_latches o ps us ms c plain late takes st oc have clean = λ e last later kl.
+        let is = subst (λ b. Either (b && all_steady ps) ⊥ (m ≡ first ms)) plain oc in
+        let next = stands_next g p x n (operates o) ps ms plain st in
+        let there = late_there o ps late takes in
+        let found : last ≡ there.0 = same_part last there.0 (sym later ∙ ap g.later is ∙ next.later ∙ there.2) in
+        let value : part_value g last ≡ part us (late_part o)
+        = ap (part_value g) found ∙ ap (λ h. part_value g (variable_part h)) (sym there.1)
+        ∙ have_at g known ps us (late_part o) have (subst (λ h. IsKnown known (variable_part h)) (sym there.1) (subst (IsKnown known) found kl)) in
+        subst IsTaken (sym (ap (latch (operates o)) value ∙ late_next o us late)) (late_taken o c us late clean)
+
+    operator_front : (o : Operator) (ps : List Part) (us : List Seen) (ms : List ℕ) (c : Option Cell) → operator_takes o (length ps) ≡ true → WorkStands g p x n (operates o) ps ms → WorkOccurs m (operates o) ps ms → Have g known ps us
         → Unless (is_plain (operates o)) (before (first ms) ≡ c) → IsClean (state_now (of_operator o) c us no_call) → ⊥
-    operator_front (operator.Prim r) ps us ms c st oc have cell clean = plain_errs x n (operates (operator.Prim r)) ps us ms (λ c. refl) st oc have clean
-    operator_front operator.MergeE ps us ms c st oc have cell clean = other_errs x n (operates operator.MergeE) ps us ms c refl st oc have cell (early_clean operator.MergeE c us clean)
-    operator_front operator.Hold ps us ms c st oc have cell clean = other_errs x n (operates operator.Hold) ps us ms c refl st oc have cell (early_clean operator.Hold c us clean)
-    operator_front operator.Changes ps us ms c st oc have cell clean = other_errs x n (operates operator.Changes) ps us ms c refl st oc have cell (early_clean operator.Changes c us clean)
-    operator_front operator.OnceE ps us ms c st oc have cell clean = other_errs x n (operates operator.OnceE) ps us ms c refl st oc have cell (early_clean operator.OnceE c us clean)
-    operator_front operator.Delay ps us ms c st oc have cell clean = other_errs x n (operates operator.Delay) ps us ms c refl st oc have cell (early_clean operator.Delay c us clean)
-    operator_front operator.DelayE ps us ms c st oc have cell clean = other_errs x n (operates operator.DelayE) ps us ms c refl st oc have cell (early_clean operator.DelayE c us clean)
+    operator_front (operator.Prim r) ps us ms c takes st oc have cell clean = plain_errs x n (operates (operator.Prim r)) ps us ms refl (λ c. refl) st oc have clean
+    operator_front operator.MergeE ps us ms c takes st oc have cell clean = other_errs x n (operates operator.MergeE) ps us ms c refl st oc have cell (λ late. absurd (false≢true late)) (early_clean operator.MergeE c us clean)
+    operator_front operator.Hold ps us ms c takes st oc have cell clean = other_errs x n (operates operator.Hold) ps us ms c refl st oc have cell (λ late. absurd (false≢true late)) (early_clean operator.Hold c us clean)
+    operator_front operator.Changes ps us ms c takes st oc have cell clean = other_errs x n (operates operator.Changes) ps us ms c refl st oc have cell (λ late. absurd (false≢true late)) (early_clean operator.Changes c us clean)
+    operator_front operator.OnceE ps us ms c takes st oc have cell clean = other_errs x n (operates operator.OnceE) ps us ms c refl st oc have cell (λ late. absurd (false≢true late)) (early_clean operator.OnceE c us clean)
+    operator_front operator.Delay ps us ms c takes st oc have cell clean = other_errs x n (operates operator.Delay) ps us ms c refl st oc have cell (late_latches operator.Delay ps us ms c refl refl takes st oc have clean) (early_clean operator.Delay c us clean)
+    operator_front operator.DelayE ps us ms c takes st oc have cell clean = other_errs x n (operates operator.DelayE) ps us ms c refl st oc have cell (late_latches operator.DelayE ps us ms c refl refl takes st oc have clean) (early_clean operator.DelayE c us clean)
 
     -- one case for each shape
     shape_front : (l : Low-F Low) (ms : List ℕ) (k : Kept) → SoundShape t (length env) l → ShapeStands g p x n walk Stands env ms l → ShapeKeeps g p q walk Trees env ms k l
@@ -322,7 +376,7 @@ module _ (g : Graph) (known : ℕ → Type 0) (p : Plan) (pr : Program) (plan : 
         let none = opens (core.Operator o (map f es)) (Core-F.Operator o (map f es)) k (outs-Operator o (map f es)) h in
         elim oc [
           | inl c ↦ any_front es 0 ms inner sound st.0 kp.0 c (line_parts ps line none)
-          | inr c ↦ operator_front o qs.parts ps.values qs.left (form_cell (of_operator o) k) st.1 c have kp.1 (line_clean ps line none)
+          | inr c ↦ operator_front o qs.parts ps.values qs.left (form_cell (of_operator o) k) (ap (operator_takes o) (all_length walk env es ms) ∙ s.parts) st.1 c have kp.1 (line_clean ps line none)
         ]
     shape_front (Low-F.Handler g' es id ss) ms k s st kp oc h =
         let qs = place_all walk env es ms in
@@ -347,7 +401,7 @@ module _ (g : Graph) (known : ℕ → Type 0) (p : Plan) (pr : Program) (plan : 
         elim oc [
           | inl c ↦ any_front es 0 ms inner sound st.0 kp.0 c (line_parts ps told none)
           | inr c ↦ other_errs x n (handles g' id.0) (qs.parts ++ slot_parts p env ss) (ps.values ++ others) qs.left cell refl st.2 c
-              (have_append g known qs.parts ps.values (slot_parts p env ss) others have slots) kp.1 line'
+              (have_append g known qs.parts ps.values (slot_parts p env ss) others have slots) kp.1 (λ late. absurd (false≢true late)) line'
         ]
     shape_front (Low-F.Loop l es id ss) ms k s st kp oc h =
         let qs = place_all walk env es ms in
@@ -362,7 +416,7 @@ module _ (g : Graph) (known : ℕ → Type 0) (p : Plan) (pr : Program) (plan : 
         let turns_none = none_under (length (map f es)) _ (none_right ps.first _ (none_left _ _ none)) in
         elim oc [
           | inl c ↦ any_front es 0 ms k sound st.0 kp c (none_left ps.first _ (none_left _ _ none))
-          | inr c ↦ plain_errs x n (loops l id.0) (qs.parts ++ slot_parts p env ss) (ps.values ++ others) qs.left (λ c. refl) st.2 c
+          | inr c ↦ plain_errs x n (loops l id.0) (qs.parts ++ slot_parts p env ss) (ps.values ++ others) qs.left refl (λ c. refl) st.2 c
               (have_append g known qs.parts ps.values (slot_parts p env ss) others have slots)
               (loop_line l id.0 ps.values others body count
               (λ args e. let same = kernel_means g known p pr plan sources before closed settled eras means n few (agrees_at n below) x env vs en n id.0 (loop_binds l) ss args kept.Nothing below s.fits e in (sym same.value, λ e. same.first ∙ e))
@@ -410,6 +464,9 @@ module _ (g : Graph) (known : ℕ → Type 0) (p : Plan) (pr : Program) (plan : 
           | inr more ↦ elim more [
             | inl o ↦ ih body x inside (vs ++ x0 ∷ []) (rest i.left) (child inner 1) sound1 have st.1 kp.1 o (none_under 1 b.first (none_left (under 1 b.first) None (none_right (under 0 d.first) _ parts_none)))
             | inr is ↦ node_errs x n feeds (i.part ∷ []) (d.value ∷ []) i.left cell (Some last) is st.2 (r, tt) kp.2
+                (λ late part later kp'. let found : part ≡ last = same_part part last (sym later ∙ ap g.later is ∙ st.2.later) in
+                subst IsTaken (sym (ap (latch feeds) (ap (part_value g) found ∙ agrees_at n below body x inside (vs ++ x0 ∷ []) (rest i.left) (child inner 1) sound1 have st.1 kp.1 (subst (IsKnown known) found kp'))))
+                (fed_taken (refusal_in (base_of cell d.value)) b.value (state_next of_feedback (d.value ∷ b.value ∷ [])) line.refusal))
                 (record {
                   value = fed_good cell d.value (value_good n w (f init) vs (child inner 0) d_none);
                   inner = refl;
@@ -435,7 +492,7 @@ module _ (g : Graph) (known : ℕ → Type 0) (p : Plan) (pr : Program) (plan : 
         let same = kernel_means g known p pr plan sources before closed settled eras means n few (agrees_at n below) x env vs en (suc n) id.0 0 ss [] k few s.fits refl in
         let none = ap (λ us. (eval_to (suc n) w (kernel_expr t.kernels id.0) us k).first) (append-nil vs) ∙ h in
         let good = value_good (suc n) w (kernel_expr t.kernels id.0) (vs ++ []) k none in
-        plain_errs x n (runs id.0) (slot_parts p env ss) others ms (λ c. refl) st.1 oc slots (record { value = ap own same.value ∙ good; inner = same.first ∙ none; refusal = refl })
+        plain_errs x n (runs id.0) (slot_parts p env ss) others ms refl (λ c. refl) st.1 oc slots (record { value = ap own same.value ∙ good; inner = same.first ∙ none; refusal = refl })
 
   -- THE FRONT. Where a node errs on the values of known inputs, every evaluation in whose walk it stands errs.
   pub front_on : (n : ℕ) → n ≤ 2001 → FrontAt n

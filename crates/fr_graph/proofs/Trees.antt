@@ -61,11 +61,11 @@ each_known (steady v) = tt
 each_known (signal m) = tt
 
 -- what a late operator's cell takes is the last of its parts
-abbrev late_part : Operator → ℕ
+abbrev pub late_part : Operator → ℕ
 late_part operator.Delay = 1
 late_part o = 0
 
-late_next : (o : Operator) (xs : List Seen) → is_late (operates o) ≡ true → latch (operates o) (part xs (late_part o)) ≡ state_next (of_operator o) xs
+pub late_next : (o : Operator) (xs : List Seen) → is_late (operates o) ≡ true → latch (operates o) (part xs (late_part o)) ≡ state_next (of_operator o) xs
 late_next operator.Delay xs e = refl
 late_next operator.DelayE xs e = refl
 late_next (operator.Prim p) xs e = absurd (false≢true e)
@@ -102,7 +102,7 @@ late_line operator.Changes cell xs c late e = absurd (false≢true late)
 late_line operator.OnceE cell xs c late e = absurd (false≢true late)
 
 -- the last part of a late operator is there
-late_there : (o : Operator) (ps : List Part) → is_late (operates o) ≡ true → operator_takes o (length ps) ≡ true → (h : Part) × (slice_get ps (late_part o) ≡ Some h) × (later_of (operates o) ps ≡ Some h)
+pub late_there : (o : Operator) (ps : List Part) → is_late (operates o) ≡ true → operator_takes o (length ps) ≡ true → (h : Part) × (slice_get ps (late_part o) ≡ Some h) × (later_of (operates o) ps ≡ Some h)
 late_there operator.Delay (a ∷ b ∷ ps) late e = (b, refl, refl)
 late_there operator.Delay (a ∷ []) late e = absurd (false≢true e)
 late_there operator.Delay [] late e = absurd (false≢true e)

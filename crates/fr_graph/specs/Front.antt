@@ -1,5 +1,6 @@
 -- Where a node stands in a walk while an instant is under way, and what it is for a node to err.
-use Rattle.std.specs.Prelude.{◌≡◌, ◌⊎◌, ℕ, zero, suc, Bool, ◌&&◌, List, [], ◌∷◌, ◌++◌, length, slice_get, Option, None, Some, Ok}
+use Rattle.std.specs.Prelude.{◌≡◌, ◌⊎◌, ℕ, zero, suc, Bool, ◌&&◌, List, [], ◌∷◌, ◌++◌, length, slice_get, Option, None, Some, Ok, Result, Err, true}
+use Rattle.fr_value.specs.declared.now.Bad.{Bad}
 use Rattle.fr_core.specs.declared.lowered.Low.{Low, out-Low}
 use Rattle.fr_core.specs.declared.lowered.Low.TheOpen.{Low-F}
 use Rattle.fr_core.specs.declared.lowered.LowItem.{LowItem}
@@ -7,9 +8,10 @@ use Rattle.fr_core.specs.declared.lowered.LowItem.TheVariants as low_item
 use Rattle.fr_meaning.specs.Words.{test_of}
 use Rattle.fr_meaning.specs.Cells.{Cell}
 use Rattle.fr_kernel.specs.Kernels.{Kernels}
-use Rattle.fr_graph.specs.Graph.{Part, steady, signal, Work, operates, handles, loops, runs, Kind, works, watch, Graph, part_value, part_values, IsClean, work_line, is_plain}
+use Rattle.fr_graph.specs.Graph.{Part, steady, signal, Work, operates, handles, loops, runs, Kind, works, watch, Graph, part_value, part_values, IsClean, work_line, is_plain, is_late}
 use Rattle.fr_graph.specs.Walk.{Plan, first, rest, Walk, AllPlaced, place_all, all_steady, slot_parts, low_body, place}
 use Rattle.fr_graph.specs.Wired.{Standing, Either, Chosen}
+use Rattle.fr_graph.specs.Known.{IsKnown, latch}
 
 -- the node stands among some expressions
 abbrev pub AnyOccurs : Walk → Standing → List Part → List Low → List ℕ → Type 0
@@ -58,8 +60,17 @@ ItemsOccur walk O env [] ms = ⊥
 ItemsOccur walk O env (low_item.Define e ∷ is) ms = let r = walk e env ms in O e env ms ⊎ ItemsOccur walk O (env ++ r.part ∷ []) is r.left
 ItemsOccur walk O env (low_item.Show name e ∷ is) ms = let r = walk e env ms in O e env ms ⊎ ItemsOccur walk O env is r.left
 
--- a node of a kind errs on the values that its inputs have: its line isn't clean, or a watch's test can't be told
-abbrev pub Errs : Graph → Kernels → (ℕ → Option Cell) → ℕ → Kind → List Part → Type 0
-Errs g t before m (works w) ins = IsClean (work_line t (g.level m) w (before m) (part_values g ins)) → ⊥
-Errs g t before m (watch a b env) (test ∷ []) = (holds : Bool) → test_of (part_value g test) ≡ Ok holds → ⊥
-Errs g t before m k ins = ⊥
+-- something is taken, and not refused
+abbrev pub IsTaken : Result Cell Bad → Type 0
+IsTaken (Ok c) = Unit {0}
+IsTaken (Err b) = ⊥
+
+-- a late work's cell takes the value of its last part, where that is known
+abbrev pub Latches : Graph → (ℕ → Type 0) → ℕ → Work → Type 0
+Latches g known m w = is_late w ≡ true → (last : Part) → g.later m ≡ Some last → IsKnown known last → IsTaken (latch w (part_value g last))
+
+-- a node of a kind errs on the values that its inputs have: its line isn't clean, its cell refuses what it is to take, or a watch's test can't be told
+abbrev pub Errs : Graph → (ℕ → Type 0) → Kernels → (ℕ → Option Cell) → ℕ → Kind → List Part → Type 0
+Errs g known t before m (works w) ins = IsClean (work_line t (g.level m) w (before m) (part_values g ins)) → Latches g known m w → ⊥
+Errs g known t before m (watch a b env) (test ∷ []) = (holds : Bool) → test_of (part_value g test) ≡ Ok holds → ⊥
+Errs g known t before m k ins = ⊥

@@ -94,4 +94,4 @@ pub record IsUnderWay (g : Graph) (known : ℕ → Type 0) (p : Plan) (is : List
 pub record ErrsThere (g : Graph) (known : ℕ → Type 0) (p : Plan) (is : List LowItem) (ms : List ℕ) (before : ℕ → Option Cell) (m : ℕ) : Type 0 where
   pub occurs : ItemsOccur (body_walk p) (Occurs g p known m 2000) [] is ms
   pub inputs : AllKnown known (g.inputs m)
-  pub errs : Errs g p.table before m (g.kind m) (g.inputs m)
+  pub errs : Errs g known p.table before m (g.kind m) (g.inputs m)
