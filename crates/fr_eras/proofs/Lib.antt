@@ -9,3 +9,5 @@ pub mod Only
 pub mod Readers
 pub mod Ranks
 pub mod Rising
+pub mod Reading
+pub mod Joining

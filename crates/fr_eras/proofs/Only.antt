@@ -3,10 +3,10 @@ use Rattle.std.proofs.Common.{◌≡◌, ◌≢◌, ℕ, ◌+◌, ◌<◌, ◌�
 use Rattle.std.specs.Option.{option_map}
 use Rattle.std.proofs.lemmas.List.{get_or_past}
 use Rattle.fr_links.proofs.Has.{by_number}
-use Rattle.fr_queue.specs.Queue.{Queued, Sets}
+use Rattle.fr_queue.specs.Queue.{Queued}
 use Rattle.fr_store.specs.declared.node.Node.{Node}
 use Rattle.fr_store.specs.Nodes.{Stored, height_in, lifted, node_at, node_in, with_node}
-use Rattle.fr_eras.specs.Heights.{AreQueuedRight, OnlyHeights, QueueFollows, height_at}
+use Rattle.fr_eras.specs.Heights.{AreQueuedRight, OnlyHeights, QueueFollows, Requeues, height_at}
 
 by_bound : (i n : ℕ) → (i < n) ⊎ (n ≤ i)
 by_bound i n = grind arith
@@ -99,20 +99,12 @@ module _ (old new : Stored) (y h : ℕ) (n : Node) (is : node_at old y ≡ Some 
     queued_other i None apart e = refl
     queued_other i (Some k) apart e = ap (λ (j : ℕ). Some j) (right i k e ∙ sym (lifted_other i apart))
 
-    -- queued, and raised with the node
-    pub follows_raised : (was : ℕ) → queue y ≡ Some was → Sets queue queue' y (Some h) → QueueFollows queue queue' new
-    follows_raised was e sets i = elim (by_number i y) [
+    pub follows_requeued : Requeues queue queue' y h → QueueFollows queue queue' new
+    follows_requeued r i = elim (by_number i y) [
       | inl s ↦
-          ap queue' s ∙ sets.here ∙ ap (λ (k : ℕ). Some k) (sym lifted_here) ∙ sym (ap (option_map (λ k. height_at new y)) e)
-          ∙ ap (λ (j : ℕ). option_map (λ k. height_at new j) (queue j)) (sym s)
-      | inr apart ↦ sets.other i apart ∙ queued_other i (queue i) apart refl
-    ]
-
-    -- not queued
-    pub follows_alone : queue y ≡ None → ((i : ℕ) → queue' i ≡ queue i) → QueueFollows queue queue' new
-    follows_alone none same i = elim (by_number i y) [
-      | inl s ↦ same i ∙ ap queue s ∙ none ∙ sym (ap (option_map (λ k. height_at new y)) none) ∙ ap (λ (j : ℕ). option_map (λ k. height_at new j) (queue j)) (sym s)
-      | inr apart ↦ same i ∙ queued_other i (queue i) apart refl
+          ap queue' s ∙ r.here ∙ ap (λ (k : ℕ). option_map (λ j. k) (queue y)) (sym lifted_here)
+          ∙ ap (λ (m : ℕ). option_map (λ k. height_at new m) (queue m)) (sym s)
+      | inr apart ↦ r.other i apart ∙ queued_other i (queue i) apart refl
     ]
 
 pub follows_itself : (s : Stored) (queue : Queued) → AreQueuedRight queue s → QueueFollows queue queue s

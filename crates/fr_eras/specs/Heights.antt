@@ -81,6 +81,11 @@ pub record OnlyHeights (old new : Stored) : Type 0 where
 abbrev pub QueueFollows : Queued → Queued → Stored → Type 0
 QueueFollows old new store = (i : ℕ) → new i ≡ option_map (λ h. height_at store i) (old i)
 
+-- A node that is queued is queued at this height now, and nothing else changed.
+pub record Requeues (old new : Queued) (node height : ℕ) : Type 0 where
+  pub here : new node ≡ option_map (λ h. height) (old node)
+  pub other : (i : ℕ) → i ≢ node → new i ≡ old i
+
 -- There is room in the agenda for every node up to a height.
 abbrev pub HasQueueRoom : Room → Stored → ℕ → Type 0
 HasQueueRoom room store greatest = (i h : ℕ) → IsSome (node_at store i) → h ≤ greatest → room i h ≡ true

@@ -1,5 +1,5 @@
 -- What one step of a raising does to the store, the agenda and the list of work.
-use Rattle.std.specs.Prelude.{◌≡◌, ℕ, ◌+◌, ◌^◌, ◌<◌, ◌≤◌, List, length, ◌⊎◌, Option, IsSome, true, drop}
+use Rattle.std.specs.Prelude.{◌≡◌, ℕ, ◌+◌, ◌^◌, ◌<◌, ◌≤◌, List, length, ◌⊎◌, Option, Some, IsSome, true, drop}
 use Rattle.fr_links.specs.Lists.{has_item}
 use Rattle.fr_queue.specs.Queue.{KeepsRoom, Queued, Room}
 use Rattle.fr_store.specs.Nodes.{Edge, Stored, dependents_at, edge_number, has_reader, node_at}
@@ -65,6 +65,7 @@ pub record Reading (members : ℕ → List ℕ) (x : ℕ) (old new : Stored) (qu
 
 -- As far as the members of an era have come.
 pub record Joining (members : ℕ → List ℕ) (x : ℕ) (old new : Stored) (queued queued' : Queued) (room room' : Room) (work work' : Working) (at : Option ℕ) : Type 0 where
+  pub stands : (item : ℕ) → at ≡ Some item → has_item (members (x + 1)) item ≡ true
   pub keeps : KeepsAll old new room room' work work'
   pub advances : Advances members x (λ base. IsKept base members x)
       (λ base upper. (has_item (from_here (members (x + 1)) at) upper ≡ true) ⊎ IsResult base members x upper) old new queued queued' work.nodes work'.nodes

@@ -6,7 +6,7 @@ ghost use Rattle.fr_store.specs.Nodes.{node_at};
 ghost use Rattle.fr_eras.specs.Lives.{eras_in};
 ghost use Rattle.fr_eras.specs.Kept.{AreApart};
 ghost use Rattle.fr_eras.specs.Raise.{AreRaised, Lifts};
-ghost use Rattle.fr_eras.specs.Heights.{AreLevelledBut, AreMild, AreQueuedRight, HasRoomFor, IsAbove, IsKept, IsResult, QueueFollows, RisesAlong, height_at, top_height};
+ghost use Rattle.fr_eras.specs.Heights.{AreLevelledBut, AreMild, AreQueuedRight, HasRoomFor, IsAbove, IsKept, IsResult, QueueFollows, Requeues, RisesAlong, height_at, top_height};
 ghost use Rattle.fr_eras.specs.Rising.{Advances, GoesOn, KeepsAll, WantsNone, nothing};
 
 use crate::ending::{GRAVE, list_of_era};
@@ -16,6 +16,19 @@ use fr_queue::Agenda;
 use fr_store::Store;
 use fr_value::NodeId;
 use std::alloc::AllocError;
+
+/// Raises a node in the agenda, where it is in it.
+fn raise_queued<A: Agenda>(agenda: &mut A, node: NodeId, height: u128) -> Result<(), AllocError>
+    requires { (was : ℕ) → A.queued agenda.old node.0 ≡ Some was → was ≤ height }
+    ensures ok { OnOk result (Requeues (A.queued agenda.old) (A.queued agenda.new) node.0 height) }
+    ensures in_room { IsTrue (A.room agenda.old node.0 height) → IsOk result }
+    ensures keeps_room { KeepsRoom (A.room agenda.old) (A.room agenda.new) }
+{
+    if agenda.has(node) {
+        agenda.raise(node, height)?;
+    }
+    Ok(())
+}
 
 /// Lifts a node above another, in the agenda too, and notes it, unless it stands above already.
 fn raise_one<A: Agenda>(
@@ -39,9 +52,7 @@ fn raise_one<A: Agenda>(
         return Ok(());
     }
     store.lift(upper, height + 1);
-    if agenda.has(upper) {
-        agenda.raise(upper, height + 1)?;
-    }
+    raise_queued(agenda, upper, height + 1)?;
     work.note(upper.0 as usize)?;
     Ok(())
 }
@@ -95,6 +106,7 @@ fn raise_members<A: Agenda>(
 }
 
 /// Raises the result of a watch.
+#[tactic(none)]
 fn raise_result<A: Agenda>(
     links: &Links,
     work: &mut Work,
@@ -118,6 +130,7 @@ fn raise_result<A: Agenda>(
 }
 
 /// The result of a watch, or None where the node isn't a watch with a member behind it.
+#[tactic(none)]
 fn result_of(links: &Links, store: &Store, node: NodeId) -> Option<NodeId>
     requires apart { AreApart links.now.lists }
     requires there { IsSome (node_at store.now node.0) }
@@ -139,6 +152,7 @@ fn result_of(links: &Links, store: &Store, node: NodeId) -> Option<NodeId>
 }
 
 /// Raises what stands above a node.
+#[tactic(none)]
 fn raise_above<A: Agenda>(
     links: &Links,
     work: &mut Work,
@@ -162,6 +176,7 @@ fn raise_above<A: Agenda>(
 }
 
 /// Raises all that depends on a node, until every edge leads upwards.
+#[tactic(none)]
 pub fn raise_all<A: Agenda>(
     links: &Links,
     work: &mut Work,

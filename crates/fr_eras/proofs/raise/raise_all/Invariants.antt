@@ -9,7 +9,7 @@ use Rattle.fr_eras.proofs.raise.raise_all.Given as goal
 
 abbrev pub invariant-loop-item : goal.invariant-loop-item
 invariant-loop-item g l =
-    Risen (eras_in l.links.lists) l.id.0 l.fn.store l.store (g.A.Agenda.queued l.fn.agenda) (g.A.Agenda.queued l.agenda)
+    Risen (eras_in l.links.lists) l.fn.id.0 l.fn.store l.store (g.A.Agenda.queued l.fn.agenda) (g.A.Agenda.queued l.agenda)
     (g.A.Agenda.room l.fn.agenda) (g.A.Agenda.room l.agenda) l.fn.work l.work
 
 abbrev pub decreases-loop-item : goal.decreases-loop-item
