@@ -152,7 +152,6 @@ fn result_of(links: &Links, store: &Store, node: NodeId) -> Option<NodeId>
 }
 
 /// Raises what stands above a node.
-#[tactic(none)]
 fn raise_above<A: Agenda>(
     links: &Links,
     work: &mut Work,
