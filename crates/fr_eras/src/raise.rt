@@ -106,7 +106,6 @@ fn raise_members<A: Agenda>(
 }
 
 /// Raises the result of a watch.
-#[tactic(none)]
 fn raise_result<A: Agenda>(
     links: &Links,
     work: &mut Work,
@@ -130,7 +129,6 @@ fn raise_result<A: Agenda>(
 }
 
 /// The result of a watch, or None where the node isn't a watch with a member behind it.
-#[tactic(none)]
 fn result_of(links: &Links, store: &Store, node: NodeId) -> Option<NodeId>
     requires apart { AreApart links.now.lists }
     requires there { IsSome (node_at store.now node.0) }
