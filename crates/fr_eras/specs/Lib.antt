@@ -4,3 +4,5 @@ pub mod Order
 pub mod Left
 pub mod Raise
 pub mod Work
+pub mod Heights
+pub mod Rising

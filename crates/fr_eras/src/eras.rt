@@ -2,6 +2,7 @@ ghost use Rattle.std.specs.Prelude.{◌≡◌, ◌≢◌, ℕ, ◌+◌, ◌<◌,
 ghost use Rattle.fr_links.specs.Lists.{has_item};
 ghost use Rattle.fr_queue.specs.Queue.{KeepsRoom};
 ghost use Rattle.fr_eras.specs.Lives.{AreNew, AreSame, BeginsEra, IsAlone, IsMember, JoinsEra, Killed, LeavesQueue, Under, grave, is_era, is_set, members};
+ghost use Rattle.fr_eras.specs.Heights.{AreEarlier, AreThere};
 ghost use Rattle.fr_eras.specs.Order.{node_at, nodes_of};
 
 use crate::ending::{GRAVE, end_with_nested, list_of_era};
@@ -9,6 +10,7 @@ use crate::order::Members;
 use crate::work::Work;
 use fr_links::Links;
 use fr_queue::Agenda;
+use fr_store::Store;
 use fr_value::{EraId, NodeId};
 use std::alloc::{AllocError, Global};
 use std::marker::Model;
@@ -85,10 +87,12 @@ impl Eras {
     }
 
     /// Ends an era with all eras that its members own, at any depth: their members go to the grave and leave the agenda.
-    /// It takes no memory: `begin` and `join` made the room.
-    pub fn kill<A: Agenda>(&mut self, era: EraId, agenda: &mut A)
+    /// None of them was computed at the latest instant. It takes no memory: `begin` and `join` made the room.
+    pub fn kill<A: Agenda>(&mut self, era: EraId, _store: &Store, agenda: &mut A)
         requires there { IsTrue (is_era self.old era.0) }
         requires not_program { era.0 ≢ 0 }
+        requires live { AreThere self.old _store.now }
+        requires earlier { AreEarlier self.old _store.now era.0 }
         ensures killed { Killed self.old self.new era.0 }
         ensures queue { LeavesQueue (Under self.old era.0) (A.queued agenda.old) (A.queued agenda.new) }
         ensures keeps_room { KeepsRoom (A.room agenda.old) (A.room agenda.new) }

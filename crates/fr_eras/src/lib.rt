@@ -4,6 +4,7 @@
 mod ending;
 mod eras;
 mod order;
+mod raise;
 mod work;
 
 pub use eras::{Eras, MOST_OWNERS};
