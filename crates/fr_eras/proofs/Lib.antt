@@ -11,3 +11,6 @@ pub mod Ranks
 pub mod Rising
 pub mod Reading
 pub mod Joining
+pub mod Results
+pub mod Burials
+pub mod Whole

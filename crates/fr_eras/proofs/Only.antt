@@ -57,7 +57,7 @@ only_was_live a b i p h = let m = some_node (node_at b i) h in let n = only_back
 pub height_is : (s : Stored) (i : ℕ) (n : Node) → node_at s i ≡ Some n → height_at s i ≡ n.height
 height_is s i n e = ap height_in e
 
-node_inside : (nodes : List (Option Node)) (i : ℕ) (n : Node) → node_in nodes i ≡ Some n → i < length nodes
+pub node_inside : (nodes : List (Option Node)) (i : ℕ) (n : Node) → node_in nodes i ≡ Some n → i < length nodes
 node_inside nodes i n e = elim (by_bound i (length nodes)) [
   | inl lt ↦ lt
   | inr le ↦ none_some n (sym (get_or_past nodes i None le) ∙ e)

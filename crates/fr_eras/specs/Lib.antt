@@ -6,3 +6,4 @@ pub mod Raise
 pub mod Work
 pub mod Heights
 pub mod Rising
+pub mod Burial

@@ -2,9 +2,11 @@ ghost use Rattle.std.specs.Prelude.{◌≡◌, ◌≢◌, ℕ, ◌+◌, ◌<◌,
 ghost use Rattle.fr_links.specs.Lists.{has_item};
 ghost use Rattle.fr_queue.specs.Queue.{KeepsRoom};
 ghost use Rattle.fr_eras.specs.Lives.{AreNew, AreSame, BeginsEra, IsAlone, IsMember, JoinsEra, Killed, LeavesQueue, Under, grave, is_era, is_set, members};
+ghost use Rattle.fr_eras.specs.Burial.{Buries, GivesUp};
 ghost use Rattle.fr_eras.specs.Heights.{AreEarlier, AreThere};
 ghost use Rattle.fr_eras.specs.Order.{node_at, nodes_of};
 
+use crate::burial::bury_all;
 use crate::ending::{GRAVE, end_with_nested, list_of_era};
 use crate::order::Members;
 use crate::work::Work;
@@ -98,6 +100,16 @@ impl Eras {
         ensures keeps_room { KeepsRoom (A.room agenda.old) (A.room agenda.new) }
     {
         end_with_nested(&mut self.links, &mut self.begun, agenda, era.0 as usize);
+    }
+
+    /// Clears the nodes in the grave and gives up their numbers, so that the grave is empty. Nothing that lives is to name
+    /// one of them. It takes no memory.
+    pub fn bury(&mut self, store: &mut Store)
+        requires live { AreThere self.old store.old }
+        ensures buries { Buries self.old self.new }
+        ensures gives_up { GivesUp (grave self.old) store.old store.new }
+    {
+        bury_all(&mut self.links, store);
     }
 
     /// The members of an era in order of creation.

@@ -1,6 +1,7 @@
 //! Eras of the graph of signals: which nodes live together and end together.
 #![tactic(auto)]
 
+mod burial;
 mod ending;
 mod eras;
 mod order;

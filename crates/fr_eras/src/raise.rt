@@ -140,13 +140,12 @@ fn result_of(links: &Links, store: &Store, node: NodeId) -> Option<NodeId>
         return None;
     }
     let item = node.0 as usize;
-    match links.list_of(item) {
-        None | Some(GRAVE) => None,
-        Some(_) => {
-            let next = links.next(item)?;
-            Some(NodeId(next as u32))
-        }
+    let list = links.list_of(item)?;
+    if list == GRAVE {
+        return None;
     }
+    let next = links.next(item)?;
+    Some(NodeId(next as u32))
 }
 
 /// Raises what stands above a node.
@@ -173,7 +172,6 @@ fn raise_above<A: Agenda>(
 }
 
 /// Raises all that depends on a node, until every edge leads upwards.
-#[tactic(none)]
 pub fn raise_all<A: Agenda>(
     links: &Links,
     work: &mut Work,

@@ -1,11 +1,10 @@
-use Rattle.std.proofs.Common.{◌≡◌, ◌+◌, ◌<◌, ◌^◌, ℕ, ap, ◌∙◌, arith, slice_get}
+use Rattle.std.proofs.Common.{◌+◌, ◌<◌, ◌^◌, ℕ, ap, ◌∙◌, arith, slice_get}
 use Rattle.std.specs.Result.{IsOk}
 use Rattle.fr_links.specs.Lists.{list_at}
 use Rattle.fr_eras.specs.Lives.{eras_in}
 use Rattle.fr_eras.proofs.Joining.{item_stands, item_there, joining_begins, joining_ends, joining_goes_on, joining_nearer, joining_wants}
 use Rattle.fr_eras.proofs.Moves.{stands_somewhere}
-use Rattle.fr_eras.proofs.Only.{follows_right, only_live}
-use Rattle.fr_eras.proofs.Rising.{goes_on_then, keeps_then, low_here}
+use Rattle.fr_eras.proofs.Only.{follows_right}
 use Rattle.fr_eras.proofs.raise.raise_members.Goals as goal
 
 pub loop-next-init : goal.loop-next-init

@@ -1,4 +1,4 @@
-use Rattle.std.proofs.Common.{ℕ, ◌+◌, length}
+use Rattle.std.proofs.Common.{◌+◌, length}
 use Rattle.fr_eras.specs.Lives.{eras_in}
 use Rattle.fr_eras.specs.Order.{from_here}
 use Rattle.fr_eras.specs.Rising.{Joining}

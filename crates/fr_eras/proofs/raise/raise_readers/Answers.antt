@@ -1,4 +1,3 @@
-use Rattle.std.proofs.Common.{◌≡◌, ◌+◌, ℕ}
 use Rattle.std.specs.Result.{IsOk}
 use Rattle.fr_eras.specs.Lives.{eras_in}
 use Rattle.fr_eras.proofs.Reading.{found, next_edge, next_on, reading_begins, reading_ends, reading_goes_on, reading_nearer, reading_wants, stands_at, upper_there}

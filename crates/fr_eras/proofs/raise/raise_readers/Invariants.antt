@@ -1,4 +1,3 @@
-use Rattle.std.proofs.Common.{ℕ}
 use Rattle.fr_store.specs.Nodes.{dependents_at}
 use Rattle.fr_eras.specs.Lives.{eras_in}
 use Rattle.fr_eras.specs.Rising.{Reading}
