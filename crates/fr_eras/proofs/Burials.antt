@@ -1,14 +1,13 @@
 -- One dead node more is buried.
-use Rattle.std.proofs.Common.{◌≡◌, ◌≢◌, ℕ, ◌+◌, ◌^◌, ◌<◌, ◌≤◌, List, [], ◌∷◌, ◌++◌, length, inl, inr, Option, Some, None, IsSome, slice_get, slice_set, Bool, true, false, refl, sym, ap, ◌∙◌, subst, arith, append_assoc, get_or-set_same, get_or-set_other, length-set}
+use Rattle.std.proofs.Common.{◌≡◌, ◌≢◌, ℕ, ◌+◌, ◌^◌, ◌<◌, List, [], ◌∷◌, ◌++◌, length, inl, inr, Option, Some, None, IsSome, slice_get, Bool, true, false, refl, sym, ap, ◌∙◌, subst, arith, append_assoc, get_or-set_same, get_or-set_other, length-set}
 use Rattle.std.proofs.lemmas.List.{append-nil, length-map}
-use Rattle.fr_links.specs.Lists.{has_item, list_at, list_of, others, without}
+use Rattle.fr_links.specs.Lists.{has_item, list_at, others, without}
 use Rattle.fr_links.specs.Rings.{AllDifferent}
-use Rattle.fr_links.proofs.Has.{by_number, by_truth, has_append_cases, has_append_left, has_append_right, here, true_false}
+use Rattle.fr_links.proofs.Has.{by_number, by_truth, has_append_left, has_append_right, here, true_false}
 use Rattle.fr_links.proofs.Others.{others_absent, others_different, others_has, others_split}
 use Rattle.fr_store.specs.declared.node.Node.{Node}
 use Rattle.fr_store.specs.Nodes.{Renames, Stored, cleared, node_at, node_in, with_node}
-use Rattle.fr_eras.specs.Lives.{is_era}
-use Rattle.fr_eras.specs.Kept.{AreApart, AreEras, AreLives, HasRoom, lives_of}
+use Rattle.fr_eras.specs.Kept.{AreApart, AreEras, lives_of}
 use Rattle.fr_eras.specs.Burial.{Buries, Burying, Empties, GivesUp}
 use Rattle.fr_eras.proofs.Lookups.{at_without}
 use Rattle.fr_eras.proofs.Moves.{pushed_has, pushed_is}

@@ -1,13 +1,13 @@
 -- The members of an era, one after another.
-use Rattle.std.proofs.Common.{◌≡◌, ℕ, suc, ◌+◌, ◌^◌, ◌<◌, List, [], ◌∷◌, length, ◌⊎◌, inl, inr, Option, Some, None, IsSome, true, false, slice_get, refl, sym, ap, ◌∙◌, subst, arith}
+use Rattle.std.proofs.Common.{◌≡◌, ℕ, suc, ◌+◌, ◌<◌, List, [], ◌∷◌, length, ◌⊎◌, inl, inr, Option, Some, None, IsSome, true, slice_get, sym, ap, ◌∙◌, subst, arith}
 use Rattle.fr_links.specs.Lists.{has_item}
 use Rattle.fr_links.specs.Rings.{AllDifferent}
 use Rattle.fr_links.proofs.Has.{has_append_cases, true_false}
 use Rattle.fr_queue.specs.Queue.{Queued, Room}
 use Rattle.fr_store.specs.Nodes.{Stored, node_at}
-use Rattle.fr_eras.specs.Order.{from_here, from_item}
+use Rattle.fr_eras.specs.Order.{from_here}
 use Rattle.fr_eras.specs.Raise.{Lifts}
-use Rattle.fr_eras.specs.Heights.{AreQueuedRight, IsAbove, IsKept, IsResult, OnlyHeights, QueueFollows, height_at}
+use Rattle.fr_eras.specs.Heights.{AreQueuedRight, IsKept, IsResult, QueueFollows, height_at}
 use Rattle.fr_eras.specs.Rising.{Advances, Joining, KeepsAll, Rest, WantsNone}
 use Rattle.fr_eras.specs.Work.{Working}
 use Rattle.fr_eras.proofs.Moves.{alone_is}

@@ -1,14 +1,13 @@
 -- Any order of dependence can be counted: a node's rank is how many nodes come before it or with it.
-use Rattle.std.proofs.Common.{◌≡◌, ◌≢◌, ℕ, zero, suc, ◌+◌, ◌^◌, ◌<◌, ◌≤◌, List, [], ◌∷◌, length, ◌⊎◌, inl, inr, Option, Some, None, IsSome, Bool, true, false, cond, nat_lt, get_or, max, refl, sym, ap, ◌∙◌, subst, arith}
+use Rattle.std.proofs.Common.{◌≡◌, ℕ, zero, suc, ◌+◌, ◌<◌, ◌≤◌, List, [], ◌∷◌, length, ◌⊎◌, inl, inr, Option, Some, None, IsSome, Bool, true, false, cond, nat_lt, refl, ap, subst, arith}
 use Rattle.std.specs.Option.{is_some}
 use Rattle.std.specs.List.{count_by}
 use Rattle.std.proofs.lemmas.List.{get_or_past}
 use Rattle.std.proofs.lemmas.List.Recursion.{is_count_by}
-use Rattle.fr_links.proofs.Has.{by_truth, has_append_right, true_false}
 use Rattle.fr_store.specs.declared.node.Node.{Node}
 use Rattle.fr_store.specs.Nodes.{Stored, height_in, node_at, node_in}
 use Rattle.fr_eras.specs.Raise.{CanRaise, Edges}
-use Rattle.fr_eras.specs.Heights.{AreLevelledBut, AreMild, RisesAlong, height_at, top_height}
+use Rattle.fr_eras.specs.Heights.{AreLevelledBut, RisesAlong, height_at, top_height}
 
 by_bound : (i n : ℕ) → (i < n) ⊎ (n ≤ i)
 by_bound i n = grind arith

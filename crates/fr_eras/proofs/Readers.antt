@@ -1,5 +1,5 @@
 -- The edges of a node, one after another.
-use Rattle.std.proofs.Common.{◌≡◌, ◌≢◌, ℕ, zero, suc, ◌+◌, ◌<◌, ◌≤◌, List, [], ◌∷◌, length, drop, ◌⊎◌, inl, inr, Option, Some, None, IsSome, Bool, true, false, cond, nat_eq, ◌||◌, slice_get, refl, sym, ap, ◌∙◌, subst, arith, add-one}
+use Rattle.std.proofs.Common.{◌≡◌, ℕ, zero, suc, ◌+◌, ◌<◌, ◌≤◌, List, [], ◌∷◌, length, drop, ◌⊎◌, inl, inr, Option, Some, None, Bool, true, false, cond, nat_eq, ◌||◌, slice_get, refl, sym, ap, ◌∙◌, subst, arith}
 use Rattle.std.specs.Option.{option_map}
 use Rattle.fr_links.proofs.Has.{by_truth, eq_is, eq_self, or_case}
 use Rattle.fr_store.specs.Nodes.{Edge, edge_number, has_reader}

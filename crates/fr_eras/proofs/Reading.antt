@@ -1,16 +1,16 @@
 -- The readers of a node, one after another.
-use Rattle.std.proofs.Common.{◌≡◌, ◌≢◌, ℕ, suc, ◌+◌, ◌^◌, ◌<◌, ◌≤◌, List, [], ◌∷◌, length, drop, ◌⊎◌, inl, inr, Option, Some, None, IsSome, Bool, true, false, slice_get, slice_index_or, refl, sym, ap, ◌∙◌, subst, arith}
+use Rattle.std.proofs.Common.{◌≡◌, ℕ, ◌+◌, ◌<◌, List, [], drop, ◌⊎◌, inl, inr, Option, Some, None, IsSome, true, slice_get, slice_index_or, sym, ap, ◌∙◌, subst}
 use Rattle.fr_links.proofs.Has.{true_false}
 use Rattle.fr_queue.specs.Queue.{Queued, Room}
 use Rattle.fr_store.specs.declared.node.Node.{Node}
 use Rattle.fr_store.specs.Nodes.{AreDependents, Edge, IsEdge, StandsAt, Stored, dependents_at, edge_number, has_reader, lifted, node_at, reads}
 use Rattle.fr_eras.specs.Raise.{Lifts}
 use Rattle.fr_eras.specs.Heights.{AreQueuedRight, IsAbove, IsKept, OnlyHeights, QueueFollows, height_at}
-use Rattle.fr_eras.specs.Rising.{Advances, GoesOn, KeepsAll, Reading, Rest, WantsNone, readers_left}
+use Rattle.fr_eras.specs.Rising.{Advances, KeepsAll, Reading, Rest, WantsNone, readers_left}
 use Rattle.fr_eras.specs.Work.{Working}
-use Rattle.fr_eras.proofs.Only.{is_node, only_back, only_live, only_node, only_then, some_node}
+use Rattle.fr_eras.proofs.Only.{only_back, only_live, only_node, some_node}
 use Rattle.fr_eras.proofs.Readers.{all_dropped, dropped, edge_there, edges_left, edges_less, first_reader, stands_reader}
-use Rattle.fr_eras.proofs.Rising.{advance_more, advance_none, advance_rest, goes_on_then, keeps_itself, keeps_then, low_here, reader_on, wants_one, wants_then}
+use Rattle.fr_eras.proofs.Rising.{advance_more, advance_none, advance_rest, keeps_itself, keeps_then, reader_on, wants_one, wants_then}
 
 -- edges lead on in a store with the same edges
 pub next_on : (cur new : Stored) (number : ℕ) (at : Option ℕ) → new.dependents ≡ cur.dependents

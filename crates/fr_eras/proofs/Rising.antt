@@ -1,18 +1,15 @@
 -- The steps of a raising, put together.
-use Rattle.std.proofs.Common.{◌≡◌, ◌≢◌, ℕ, suc, ◌+◌, ◌^◌, ◌<◌, ◌≤◌, List, [], ◌∷◌, length, drop, ◌⊎◌, inl, inr, Option, Some, None, IsSome, Bool, true, false, slice_get, refl, sym, ap, ◌∙◌, subst, arith}
+use Rattle.std.proofs.Common.{◌≡◌, ℕ, ◌+◌, ◌^◌, ◌<◌, ◌≤◌, List, length, ◌⊎◌, inl, inr, IsSome, true, sym, subst, arith}
 use Rattle.fr_links.specs.Lists.{has_item}
-use Rattle.fr_links.specs.Rings.{AllDifferent}
-use Rattle.fr_links.proofs.Has.{by_number, true_false}
-use Rattle.fr_queue.specs.Queue.{KeepsRoom, Queued, Room}
+use Rattle.fr_queue.specs.Queue.{Queued, Room}
 use Rattle.fr_store.specs.declared.node.Node.{Node}
-use Rattle.fr_store.specs.Nodes.{AreDependents, Edge, StandsAt, Stored, dependents_at, edge_number, has_reader, is_watch, lifted, node_at, reads}
-use Rattle.fr_eras.specs.Raise.{CanRaise, Edges, Lifts, Raising, Steps}
-use Rattle.fr_eras.specs.Heights.{AreQueuedRight, HasQueueRoom, HasRoomFor, IsAbove, IsKept, IsReader, IsResult, OnlyHeights, QueueFollows, height_at}
-use Rattle.fr_eras.specs.Rising.{Advances, GoesOn, IsRaising, Joining, KeepsAll, Reading, Rest, WantsNone, nothing, readers_left}
+use Rattle.fr_store.specs.Nodes.{Stored, is_watch, lifted, node_at, reads}
+use Rattle.fr_eras.specs.Raise.{Edges, Lifts, Steps}
+use Rattle.fr_eras.specs.Heights.{AreQueuedRight, IsAbove, IsReader, IsResult, OnlyHeights, QueueFollows, height_at}
+use Rattle.fr_eras.specs.Rising.{Advances, GoesOn, IsRaising, KeepsAll, Rest, WantsNone}
 use Rattle.fr_eras.specs.Work.{Working}
-use Rattle.fr_eras.proofs.Only.{follows_itself, follows_right, follows_then, is_node, only_back, only_itself, only_live, only_node, only_then, only_was_live, some_node}
+use Rattle.fr_eras.proofs.Only.{follows_itself, follows_then, only_back, only_itself, only_live, only_node, only_then, only_was_live}
 use Rattle.fr_eras.proofs.Raises.{no_steps, noted_is, steps_more, steps_rest, steps_then}
-use Rattle.fr_eras.proofs.Readers.{all_dropped, dropped, edge_there, first_reader, stands_reader}
 
 pub keeps_itself : (s : Stored) (room : Room) (work : Working) → KeepsAll s s room room work work
 keeps_itself s room work = record { only = only_itself s; stays = λ n h e. e; more = omega arith }

@@ -1,5 +1,5 @@
 -- Which node stands above which, and what is asked and what becomes of their heights.
-use Rattle.std.specs.Prelude.{◌≡◌, ◌≢◌, ℕ, ◌+◌, ◌^◌, ◌<◌, ◌≤◌, List, [], ◌∷◌, length, ◌⊎◌, Option, Some, None, IsSome, Bool, true, false, max, slice_get}
+use Rattle.std.specs.Prelude.{◌≡◌, ◌≢◌, ℕ, ◌+◌, ◌^◌, ◌<◌, ◌≤◌, List, [], ◌∷◌, length, ◌⊎◌, Option, Some, IsSome, is_some, count_by, true, max, slice_get}
 use Rattle.std.specs.Option.{option_map}
 use Rattle.fr_links.specs.Lists.{has_item}
 use Rattle.fr_queue.specs.Queue.{Queued, Room}
@@ -25,10 +25,18 @@ AreEarlier lives store era = (i : ℕ) (n : Node) (stamp : ℕ) → Under lives 
 abbrev pub height_at : Stored → ℕ → ℕ
 height_at store i = height_in (node_at store i)
 
+-- A node is there.
+abbrev pub IsLive : Stored → ℕ → Type 0
+IsLive store i = IsSome (node_at store i)
+
 -- The greatest height of a node.
 abbrev pub top_height : List (Option Node) → ℕ
 top_height [] = 0
 top_height (n ∷ nodes) = max (height_in n) (top_height nodes)
+
+-- The greatest height that a raising comes to: each node can raise it by one.
+abbrev pub greatest_height : Stored → ℕ
+greatest_height store = top_height store.nodes + count_by is_some store.nodes
 
 -- A node reads another: it has it among its inputs.
 pub record IsReader (store : Stored) (lower upper : ℕ) : Type 0 where

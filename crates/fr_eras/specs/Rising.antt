@@ -4,7 +4,7 @@ use Rattle.fr_links.specs.Lists.{has_item}
 use Rattle.fr_queue.specs.Queue.{KeepsRoom, Queued, Room}
 use Rattle.fr_store.specs.Nodes.{Edge, Stored, dependents_at, edge_number, has_reader, node_at}
 use Rattle.fr_eras.specs.Raise.{CanRaise, Edges, Raising, Steps}
-use Rattle.fr_eras.specs.Heights.{AreQueuedRight, HasRoomFor, IsAbove, IsKept, IsResult, OnlyHeights, QueueFollows, height_at}
+use Rattle.fr_eras.specs.Heights.{HasRoomFor, IsAbove, IsKept, IsResult, OnlyHeights, QueueFollows, height_at}
 use Rattle.fr_eras.specs.Order.{from_here}
 use Rattle.fr_eras.specs.Work.{Working}
 

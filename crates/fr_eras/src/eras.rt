@@ -1,14 +1,16 @@
-ghost use Rattle.std.specs.Prelude.{◌≡◌, ◌≢◌, ℕ, ◌+◌, ◌<◌, ◌≤◌, [], false, length, max, Some, None, IsSome, IsTrue, IfOk, IfSome, OnErr, OnOk, ◌↔◌, slice_get};
+ghost use Rattle.std.specs.Prelude.{◌≡◌, ◌≢◌, ℕ, ◌+◌, ◌<◌, ◌≤◌, [], false, length, max, Some, None, IsOk, IsSome, IsTrue, IfOk, IfSome, OnErr, OnOk, ◌↔◌, slice_get};
 ghost use Rattle.fr_links.specs.Lists.{has_item};
 ghost use Rattle.fr_queue.specs.Queue.{KeepsRoom};
 ghost use Rattle.fr_eras.specs.Lives.{AreNew, AreSame, BeginsEra, IsAlone, IsMember, JoinsEra, Killed, LeavesQueue, Under, grave, is_era, is_set, members};
 ghost use Rattle.fr_eras.specs.Burial.{Buries, GivesUp};
-ghost use Rattle.fr_eras.specs.Heights.{AreEarlier, AreThere};
+ghost use Rattle.fr_eras.specs.Heights.{AreEarlier, AreLevelledBut, AreListed, AreMild, AreQueuedRight, AreThere, HasQueueRoom, IsAbove, IsLive, OnlyHeights, QueueFollows, RisesAlong, greatest_height, height_at};
+ghost use Rattle.fr_eras.specs.Raise.{AreRaised};
 ghost use Rattle.fr_eras.specs.Order.{node_at, nodes_of};
 
 use crate::burial::bury_all;
 use crate::ending::{GRAVE, end_with_nested, list_of_era};
 use crate::order::Members;
+use crate::raise::raise_all;
 use crate::work::Work;
 use fr_links::Links;
 use fr_queue::Agenda;
@@ -110,6 +112,31 @@ impl Eras {
         ensures gives_up { GivesUp (grave self.old) store.old store.new }
     {
         bury_all(&mut self.links, store);
+    }
+
+    /// Raises what depends on a node, until every input and owner stands below what depends on it, and every watch below its
+    /// result. It fails only where memory is wanting, and takes none where the agenda has room; after an error the heights
+    /// are not told.
+    pub fn raise_from<A: Agenda>(
+        &mut self,
+        id: NodeId,
+        store: &mut Store,
+        agenda: &mut A,
+    ) -> Result<(), AllocError>
+        requires live { AreThere self.old store.old }
+        requires there { IsLive store.old id.0 }
+        requires mild { AreMild store.old }
+        requires queue { AreQueuedRight (A.queued agenda.old) store.old }
+        requires levelled { AreLevelledBut (IsAbove store.old (members self.old)) (height_at store.old) id.0 }
+        requires ordered { (rank : ℕ → ℕ) × RisesAlong (IsAbove store.old (members self.old)) rank }
+        ensures raised { OnOk result (AreRaised (IsAbove store.old (members self.old)) (height_at store.old) (height_at store.new) (greatest_height store.old) id.0) }
+        ensures queue { OnOk result (QueueFollows (A.queued agenda.old) (A.queued agenda.new) store.new) }
+        ensures only { OnlyHeights store.old store.new }
+        ensures same { self.new ≡ self.old }
+        ensures keeps_room { KeepsRoom (A.room agenda.old) (A.room agenda.new) }
+        ensures in_room { HasQueueRoom (A.room agenda.old) store.old (greatest_height store.old) → AreListed self.old store.old → IsOk result }
+    {
+        raise_all(&self.links, &mut self.work, store, agenda, id)
     }
 
     /// The members of an era in order of creation.

@@ -6,7 +6,7 @@ ghost use Rattle.fr_store.specs.Nodes.{node_at};
 ghost use Rattle.fr_eras.specs.Lives.{eras_in};
 ghost use Rattle.fr_eras.specs.Kept.{AreApart};
 ghost use Rattle.fr_eras.specs.Raise.{AreRaised, Lifts};
-ghost use Rattle.fr_eras.specs.Heights.{AreLevelledBut, AreMild, AreQueuedRight, HasRoomFor, IsAbove, IsKept, IsResult, QueueFollows, Requeues, RisesAlong, height_at, top_height};
+ghost use Rattle.fr_eras.specs.Heights.{AreLevelledBut, AreMild, AreQueuedRight, HasRoomFor, IsAbove, IsKept, IsResult, QueueFollows, Requeues, RisesAlong, greatest_height, height_at};
 ghost use Rattle.fr_eras.specs.Rising.{Advances, GoesOn, KeepsAll, WantsNone, nothing};
 
 use crate::ending::{GRAVE, list_of_era};
@@ -186,10 +186,10 @@ pub fn raise_all<A: Agenda>(
     requires queue { AreQueuedRight (A.queued agenda.old) store.old }
     requires levelled { AreLevelledBut (IsAbove store.old (eras_in links.now.lists)) (height_at store.old) id.0 }
     requires ordered { (rank : ℕ → ℕ) × RisesAlong (IsAbove store.old (eras_in links.now.lists)) rank }
-    ensures raised { OnOk result (AreRaised (IsAbove store.old (eras_in links.now.lists)) (height_at store.old) (height_at store.new) (top_height store.old.nodes + count_by is_some store.old.nodes) id.0) }
+    ensures raised { OnOk result (AreRaised (IsAbove store.old (eras_in links.now.lists)) (height_at store.old) (height_at store.new) (greatest_height store.old) id.0) }
     ensures queue { OnOk result (QueueFollows (A.queued agenda.old) (A.queued agenda.new) store.new) }
     ensures keeps { KeepsAll store.old store.new (A.room agenda.old) (A.room agenda.new) work.old work.new }
-    ensures in_room { HasRoomFor (A.room agenda.old) work.old.room store.old (top_height store.old.nodes + count_by is_some store.old.nodes) → IsOk result }
+    ensures in_room { HasRoomFor (A.room agenda.old) work.old.room store.old (greatest_height store.old) → IsOk result }
 {
     // There are few nodes, so that no height leaves its type.
     let _nodes = store.count();

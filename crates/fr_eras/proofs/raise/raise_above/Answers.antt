@@ -1,4 +1,4 @@
-use Rattle.std.proofs.Common.{◌≡◌, ◌+◌, ℕ, true, false}
+use Rattle.std.proofs.Common.{◌≡◌, ◌+◌, true, false}
 use Rattle.fr_eras.specs.Lives.{eras_in}
 use Rattle.fr_eras.specs.Heights.{IsAbove, IsKept, IsResult}
 use Rattle.fr_eras.specs.Rising.{nothing}

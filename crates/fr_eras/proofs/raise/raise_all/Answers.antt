@@ -1,4 +1,4 @@
-use Rattle.std.proofs.Common.{◌≡◌, ◌≤◌, ◌∷◌, [], ℕ, List, false, true, refl, sym, ap, ◌∙◌, subst, arith}
+use Rattle.std.proofs.Common.{◌≡◌, ◌≤◌, ℕ, List, false, true, refl, ap, ◌∙◌, subst}
 use Rattle.std.specs.Result.{IsOk}
 use Rattle.fr_eras.specs.Lives.{eras_in}
 use Rattle.fr_eras.specs.Raise.{noted}

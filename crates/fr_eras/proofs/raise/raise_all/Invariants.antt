@@ -1,4 +1,4 @@
-use Rattle.std.proofs.Common.{ℕ, ◌+◌, length}
+use Rattle.std.proofs.Common.{◌+◌, length}
 use Rattle.std.specs.Option.{is_some}
 use Rattle.std.specs.List.{count_by}
 use Rattle.fr_eras.specs.Lives.{eras_in}

@@ -1,6 +1,6 @@
 use Rattle.std.proofs.Common.{◌≡◌, ◌<◌, ◌^◌, None, true, refl, sym, arith}
 use Rattle.fr_store.specs.Nodes.{is_watch}
-use Rattle.fr_eras.proofs.Results.{in_no_list, in_the_grave, is_last, result_is, upper_small}
+use Rattle.fr_eras.proofs.Results.{in_no_list, in_the_grave, result_is, upper_small}
 use Rattle.fr_eras.proofs.raise.result_of.Goals as goal
 
 pub returns-in_err-list-clause-none : goal.returns-in_err-list-clause-none
