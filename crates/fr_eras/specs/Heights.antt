@@ -6,7 +6,7 @@ use Rattle.fr_queue.specs.Queue.{Queued, Room}
 use Rattle.fr_store.specs.declared.node.Node.{Node}
 use Rattle.fr_store.specs.Nodes.{Stored, height_in, is_watch, lifted, node_at, reads}
 use Rattle.fr_eras.specs.Lives.{Lives, IsMember, Under, grave, members}
-use Rattle.fr_eras.specs.Raise.{Edges}
+use Rattle.fr_eras.specs.Raise.{AreRaised, Edges}
 
 -- Every member of an era and every node in the grave is there.
 pub record AreThere (lives : Lives) (store : Stored) : Type 0 where
@@ -62,6 +62,10 @@ IsKept store members lower upper = (has_item (members (lower + 1)) upper ≡ tru
 abbrev pub IsAbove : Stored → (ℕ → List ℕ) → Edges
 IsAbove store members lower upper = IsReader store lower upper ⊎ IsKept store members lower upper
 
+-- Which node stands above which, by the eras and the store.
+abbrev pub above : Lives → Stored → Edges
+above lives store = IsAbove store (members lives)
+
 -- Every edge is levelled but those from this node.
 abbrev pub AreLevelledBut : Edges → (ℕ → ℕ) → ℕ → Type 0
 AreLevelledBut edge height id = (a b : ℕ) → edge a b → a ≢ id → height a < height b
@@ -106,3 +110,12 @@ AreListed lives store = (i : ℕ) → IsSome (node_at store i) → IsMember live
 pub record HasRoomFor (room : Room) (work : ℕ) (store : Stored) (greatest : ℕ) : Type 0 where
   pub queue : HasQueueRoom room store greatest
   pub list : (i : ℕ) → IsSome (node_at store i) → i < work
+
+-- Heights were raised from this node until every edge leads upwards.
+abbrev pub RaisesFrom : Lives → Stored → Stored → ℕ → Type 0
+RaisesFrom lives old new id = AreRaised (above lives old) (height_at old) (height_at new) (greatest_height old) id
+
+-- There is room in the agenda for all that a raising comes to, and each node is listed, so that the eras have room.
+pub record HasRoomToRaise (room : Room) (lives : Lives) (store : Stored) : Type 0 where
+  pub queue : HasQueueRoom room store (greatest_height store)
+  pub listed : AreListed lives store

@@ -3,8 +3,7 @@ ghost use Rattle.fr_links.specs.Lists.{has_item};
 ghost use Rattle.fr_queue.specs.Queue.{KeepsRoom};
 ghost use Rattle.fr_eras.specs.Lives.{AreNew, AreSame, BeginsEra, IsAlone, IsMember, JoinsEra, Killed, LeavesQueue, Under, grave, is_era, is_set, members};
 ghost use Rattle.fr_eras.specs.Burial.{Buries, GivesUp};
-ghost use Rattle.fr_eras.specs.Heights.{AreEarlier, AreLevelledBut, AreListed, AreMild, AreQueuedRight, AreThere, HasQueueRoom, IsAbove, IsLive, OnlyHeights, QueueFollows, RisesAlong, greatest_height, height_at};
-ghost use Rattle.fr_eras.specs.Raise.{AreRaised};
+ghost use Rattle.fr_eras.specs.Heights.{AreEarlier, AreLevelledBut, AreMild, AreQueuedRight, AreThere, HasRoomToRaise, IsLive, OnlyHeights, QueueFollows, RaisesFrom, RisesAlong, above, height_at};
 ghost use Rattle.fr_eras.specs.Order.{node_at, nodes_of};
 
 use crate::burial::bury_all;
@@ -127,14 +126,14 @@ impl Eras {
         requires there { IsLive store.old id.0 }
         requires mild { AreMild store.old }
         requires queue { AreQueuedRight (A.queued agenda.old) store.old }
-        requires levelled { AreLevelledBut (IsAbove store.old (members self.old)) (height_at store.old) id.0 }
-        requires ordered { (rank : ℕ → ℕ) × RisesAlong (IsAbove store.old (members self.old)) rank }
-        ensures raised { OnOk result (AreRaised (IsAbove store.old (members self.old)) (height_at store.old) (height_at store.new) (greatest_height store.old) id.0) }
+        requires levelled { AreLevelledBut (above self.old store.old) (height_at store.old) id.0 }
+        requires ordered { (rank : ℕ → ℕ) × RisesAlong (above self.old store.old) rank }
+        ensures raised { OnOk result (RaisesFrom self.old store.old store.new id.0) }
         ensures queue { OnOk result (QueueFollows (A.queued agenda.old) (A.queued agenda.new) store.new) }
         ensures only { OnlyHeights store.old store.new }
         ensures same { self.new ≡ self.old }
         ensures keeps_room { KeepsRoom (A.room agenda.old) (A.room agenda.new) }
-        ensures in_room { HasQueueRoom (A.room agenda.old) store.old (greatest_height store.old) → AreListed self.old store.old → IsOk result }
+        ensures in_room { HasRoomToRaise (A.room agenda.old) self.old store.old → IsOk result }
     {
         raise_all(&self.links, &mut self.work, store, agenda, id)
     }
