@@ -14,3 +14,4 @@ pub mod Joining
 pub mod Results
 pub mod Burials
 pub mod Whole
+pub mod Theres
