@@ -5,3 +5,13 @@ pub mod Lasting
 pub mod Kills
 pub mod Works
 pub mod Raises
+pub mod Only
+pub mod Readers
+pub mod Ranks
+pub mod Rising
+pub mod Reading
+pub mod Joining
+pub mod Results
+pub mod Burials
+pub mod Whole
+pub mod Theres

@@ -63,7 +63,7 @@ goes_over xs item at d h next =
     ∙ ap (λ (l : List ℕ). item ∷ l)
     (sym (ap (λ (l : List ℕ). from_here l at) s.2 ∙ ap (from_here (s.0 ++ item ∷ s.1)) is ∙ from_next s.0 item s.1 d'))
 
-has_place : (xs : List ℕ) (place item : ℕ) → slice_get xs place ≡ Some item → has_item xs item ≡ true
+pub has_place : (xs : List ℕ) (place item : ℕ) → slice_get xs place ≡ Some item → has_item xs item ≡ true
 has_place [] place item e = cc
 has_place (x ∷ xs) zero item e = let same : x ≡ item = cc in subst (λ (y : ℕ). has_item (x ∷ xs) y ≡ true) same (here x xs)
 has_place (x ∷ xs) (suc place) item e = has_append_right (x ∷ []) xs item (has_place xs place item e)

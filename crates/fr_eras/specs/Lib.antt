@@ -4,3 +4,6 @@ pub mod Order
 pub mod Left
 pub mod Raise
 pub mod Work
+pub mod Heights
+pub mod Rising
+pub mod Burial

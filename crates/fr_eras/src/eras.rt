@@ -1,14 +1,19 @@
-ghost use Rattle.std.specs.Prelude.{◌≡◌, ◌≢◌, ℕ, ◌+◌, ◌<◌, ◌≤◌, [], false, length, max, Some, None, IsSome, IsTrue, IfOk, IfSome, OnErr, OnOk, ◌↔◌, slice_get};
+ghost use Rattle.std.specs.Prelude.{◌≡◌, ◌≢◌, ℕ, ◌+◌, ◌<◌, ◌≤◌, [], false, length, max, Some, None, IsOk, IsSome, IsTrue, IfOk, IfSome, OnErr, OnOk, ◌↔◌, slice_get};
 ghost use Rattle.fr_links.specs.Lists.{has_item};
 ghost use Rattle.fr_queue.specs.Queue.{KeepsRoom};
 ghost use Rattle.fr_eras.specs.Lives.{AreNew, AreSame, BeginsEra, IsAlone, IsMember, JoinsEra, Killed, LeavesQueue, Under, grave, is_era, is_set, members};
+ghost use Rattle.fr_eras.specs.Burial.{Buries, GivesUp};
+ghost use Rattle.fr_eras.specs.Heights.{AreEarlier, AreLevelledBut, AreMild, AreQueuedRight, AreThere, HasRoomToRaise, IsLive, OnlyHeights, QueueFollows, RaisesFrom, RisesAlong, above, height_at};
 ghost use Rattle.fr_eras.specs.Order.{node_at, nodes_of};
 
+use crate::burial::bury_all;
 use crate::ending::{GRAVE, end_with_nested, list_of_era};
 use crate::order::Members;
+use crate::raise::raise_all;
 use crate::work::Work;
 use fr_links::Links;
 use fr_queue::Agenda;
+use fr_store::Store;
 use fr_value::{EraId, NodeId};
 use std::alloc::{AllocError, Global};
 use std::marker::Model;
@@ -85,15 +90,52 @@ impl Eras {
     }
 
     /// Ends an era with all eras that its members own, at any depth: their members go to the grave and leave the agenda.
-    /// It takes no memory: `begin` and `join` made the room.
-    pub fn kill<A: Agenda>(&mut self, era: EraId, agenda: &mut A)
+    /// None of them was computed at the latest instant. It takes no memory: `begin` and `join` made the room.
+    pub fn kill<A: Agenda>(&mut self, era: EraId, _store: &Store, agenda: &mut A)
         requires there { IsTrue (is_era self.old era.0) }
         requires not_program { era.0 ≢ 0 }
+        requires live { AreThere self.old _store.now }
+        requires earlier { AreEarlier self.old _store.now era.0 }
         ensures killed { Killed self.old self.new era.0 }
         ensures queue { LeavesQueue (Under self.old era.0) (A.queued agenda.old) (A.queued agenda.new) }
         ensures keeps_room { KeepsRoom (A.room agenda.old) (A.room agenda.new) }
     {
         end_with_nested(&mut self.links, &mut self.begun, agenda, era.0 as usize);
+    }
+
+    /// Clears the nodes in the grave and gives up their numbers, so that the grave is empty. Nothing that lives is to name
+    /// one of them. It takes no memory.
+    pub fn bury(&mut self, store: &mut Store)
+        requires live { AreThere self.old store.old }
+        ensures buries { Buries self.old self.new }
+        ensures gives_up { GivesUp (grave self.old) store.old store.new }
+    {
+        bury_all(&mut self.links, store);
+    }
+
+    /// Raises what depends on a node, until every input and owner stands below what depends on it, and every watch below its
+    /// result. It fails only where memory is wanting, and takes none where the agenda has room; after an error the heights
+    /// are not told.
+    pub fn raise_from<A: Agenda>(
+        &mut self,
+        id: NodeId,
+        store: &mut Store,
+        agenda: &mut A,
+    ) -> Result<(), AllocError>
+        requires live { AreThere self.old store.old }
+        requires there { IsLive store.old id.0 }
+        requires mild { AreMild store.old }
+        requires queue { AreQueuedRight (A.queued agenda.old) store.old }
+        requires levelled { AreLevelledBut (above self.old store.old) (height_at store.old) id.0 }
+        requires ordered { (rank : ℕ → ℕ) × RisesAlong (above self.old store.old) rank }
+        ensures raised { OnOk result (RaisesFrom self.old store.old store.new id.0) }
+        ensures queue { OnOk result (QueueFollows (A.queued agenda.old) (A.queued agenda.new) store.new) }
+        ensures only { OnlyHeights store.old store.new }
+        ensures same { self.new ≡ self.old }
+        ensures keeps_room { KeepsRoom (A.room agenda.old) (A.room agenda.new) }
+        ensures in_room { HasRoomToRaise (A.room agenda.old) self.old store.old → IsOk result }
+    {
+        raise_all(&self.links, &mut self.work, store, agenda, id)
     }
 
     /// The members of an era in order of creation.
