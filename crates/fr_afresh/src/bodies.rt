@@ -1,9 +1,10 @@
 //! The items of a program's body, one after the other.
 ghost use Rattle.std.specs.Prelude.{◌≡◌, ◌≤◌, ◌+◌, List, [], ◌∷◌, IfOk};
 ghost use Rattle.fr_core.specs.declared.program.Item.{Item as BodyItem};
+ghost use Rattle.fr_core.specs.Sets.{greatest_time};
 ghost use Rattle.fr_core.specs.WellFormed.{AreNumbered};
 ghost use Rattle.fr_meaning.specs.Evaluation.{eval_to, most_levels};
-ghost use Rattle.fr_meaning.specs.Afresh.{items as all_items, sources_at, body, greatest_time};
+ghost use Rattle.fr_meaning.specs.Afresh.{items as all_items, sources_at, body};
 ghost use Rattle.fr_meaning.specs.Dependence.{item_expr};
 ghost use Rattle.fr_afresh.specs.Bodies.{behind_item, whole, all_good};
 ghost use Rattle.fr_afresh.specs.Progress.{IsProgressOf, IsClean};

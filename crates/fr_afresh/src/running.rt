@@ -1,7 +1,8 @@
 //! A program that is evaluated afresh, from one instant to the next.
 ghost use Rattle.std.specs.Prelude.{◌≡◌, ◌<◌, ◌≤◌, length, slice_get, IfOk, IfErr, Some};
+ghost use Rattle.fr_core.specs.Sets.{greatest_time};
 ghost use Rattle.fr_core.specs.WellFormed.{IsWellFormed};
-ghost use Rattle.fr_meaning.specs.Afresh.{Instant, beginning, first_instant, instant as instant_after, greatest_time};
+ghost use Rattle.fr_meaning.specs.Afresh.{Instant, beginning, first_instant, instant as instant_after};
 ghost use Rattle.fr_afresh.specs.Stands.{evaluated_program, state_of, shown_of, Leaves, ErrsBy};
 ghost use Rattle.fr_afresh.specs.Progress.{IsProgressOf, IsClean};
 

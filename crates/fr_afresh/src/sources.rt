@@ -1,8 +1,8 @@
 //! The values of inputs and sources at an instant.
 ghost use Rattle.std.specs.Prelude.{◌≡◌, ◌≤◌, ◌<◌, ◌+◌, ◌∷◌, ℕ, suc, true, pos, map, drop, unwrap_or, IfOk, length, slice_get, None};
-ghost use Rattle.fr_core.specs.Sets.{value_in};
+ghost use Rattle.fr_core.specs.Sets.{value_in, greatest_time};
 ghost use Rattle.fr_core.specs.WellFormed.{last_source, AreNumbered, most_entries};
-ghost use Rattle.fr_meaning.specs.Afresh.{latest, source_now, sources_at, greatest_time};
+ghost use Rattle.fr_meaning.specs.Afresh.{latest, source_now, sources_at};
 ghost use Rattle.fr_afresh.specs.Walks.{AreBehind, begins_with, left_from};
 ghost use Rattle.fr_value.specs.declared.value.Value.TheVariants as value;
 

@@ -4,6 +4,10 @@ use Rattle.fr_value.specs.declared.ids.SrcId.{SrcId}
 use Rattle.fr_value.specs.declared.value.Value.{Value}
 use Rattle.fr_core.specs.declared.inputs.Entry.{Entry}
 
+-- the greatest time of an instant, which is the greatest integer of the language
+abbrev pub greatest_time : ℕ
+greatest_time = 9223372036854775807
+
 -- the value of the first entry for a source, or none where the source isn't there
 abbrev pub value_in : SrcId → List Entry → Option Value
 value_in source [] = None

@@ -119,6 +119,18 @@ AreDistinct (n ∷ ns) = (Contains ns n → ⊥) × AreDistinct ns
 abbrev pub most_entries : ℕ
 most_entries = 4294967295
 
+-- the deepest nesting of an expression in a program
+abbrev pub deepest_nesting : ℕ
+deepest_nesting = 500
+
+-- what there are fewer variables in scope than, at every place
+abbrev pub most_variables : ℕ
+most_variables = 4294967296
+
+-- what there are fewer expressions than in a program
+abbrev pub most_expressions : ℕ
+most_expressions = 2 ^ 40
+
 -- the sources of inputs and events are together the numbers from 1 on, each once, and rise in each of the two lists
 pub record AreNumbered (p : Program) : Type 0 where
   pub inputs_rise : Rises (input_sources p)
@@ -126,7 +138,7 @@ pub record AreNumbered (p : Program) : Type 0 where
   pub apart : (n : ℕ) → Contains (input_sources p) n → Contains (event_sources p) n → ⊥
   pub without_gap : (n : ℕ) → Contains (input_sources p ++ event_sources p) n ↔ ((1 ≤ n) × (n ≤ last_source p))
 
--- each list has fewer than 4,294,967,295 entries
+-- each list has fewer entries than the most
 pub record AreShort (p : Program) : Type 0 where
   pub inputs : length p.inputs < most_entries
   pub events : length p.events < most_entries
@@ -145,7 +157,7 @@ pub record IsWellFormed (p : Program) : Type 0 where
   pub scoped : are_scoped (length p.functions) (last_source p) (roots p) ≡ true
   pub numbered : AreNumbered p
   pub named : AreDistinct (map (λ i. i.name) p.inputs ++ map (λ e. e.name) p.events)
-  pub shallow : greatest (map (λ r. nesting r.expr) (roots p)) ≤ 500
+  pub shallow : greatest (map (λ r. nesting r.expr) (roots p)) ≤ deepest_nesting
   pub short : AreShort p
-  pub narrow : greatest (map (λ r. r.variables + widest r.expr) (roots p)) < 4294967296
-  pub small : total (map (λ r. count r.expr) (roots p)) < 2 ^ 40
+  pub narrow : greatest (map (λ r. r.variables + widest r.expr) (roots p)) < most_variables
+  pub small : total (map (λ r. count r.expr) (roots p)) < most_expressions

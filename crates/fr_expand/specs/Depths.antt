@@ -1,13 +1,10 @@
 -- How deep the core expression of an expression nests, whatever its names mean.
 use Rattle.std.specs.Prelude.{ℕ, ◌+◌, List, [], ◌∷◌, length, take, max}
 use Rattle.fr_value.specs.Data.{greatest}
+use Rattle.fr_core.specs.WellFormed.{deepest_nesting}
 use Rattle.fr_syntax.specs.declared.expr.Expr.{Expr, fold-Expr}
 use Rattle.fr_syntax.specs.declared.expr.Expr.TheOpen.{Expr-F}
 use Rattle.fr_expand.specs.Shapes.{Shape, literal, reference, call, choice, chain, clauses, all_of, any_of, operation, binder, feedback, shape}
-
--- the deepest nesting of an expression in a program
-abbrev pub deepest_nesting : ℕ
-deepest_nesting = 500
 
 -- where a count of levels ends: one above the deepest nesting
 abbrev pub count_end : ℕ

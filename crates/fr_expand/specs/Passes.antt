@@ -5,7 +5,7 @@ use Rattle.std.specs.Str.{bytes_eq}
 use Rattle.fr_value.specs.declared.value.Datum.{Datum}
 use Rattle.fr_prims.specs.Names.{prim_named}
 use Rattle.fr_core.specs.declared.core_form.Core.{Core}
-use Rattle.fr_core.specs.WellFormed.{nesting}
+use Rattle.fr_core.specs.WellFormed.{nesting, deepest_nesting}
 use Rattle.fr_syntax.specs.Outlines.{Global}
 use Rattle.fr_syntax.specs.Shapes.{form_of}
 use Rattle.fr_syntax.specs.declared.form.Form.{Form}
@@ -15,7 +15,6 @@ use Rattle.fr_expand.specs.declared.refusal.Kind.{Kind}
 use Rattle.fr_expand.specs.declared.refusal.Kind.TheVariants as kind
 use Rattle.fr_expand.specs.declared.refusal.Refusal.{Refusal}
 use Rattle.fr_expand.specs.declared.faults.Faults.{Faults}
-use Rattle.fr_expand.specs.Depths.{deepest_nesting}
 use Rattle.fr_expand.specs.Faults.{with, is_keyword, is_among, binding_faults, named, faults}
 use Rattle.fr_expand.specs.Items.{name_of, values_behind, form_core}
 

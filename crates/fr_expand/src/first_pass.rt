@@ -1,10 +1,10 @@
 //! The first pass over the forms: each is looked at by itself, behind those before it.
 ghost use Rattle.std.specs.Prelude.{◌≡◌, ◌+◌, ◌≤◌, ◌<◌, ℕ, List, Some, map, nat_lt, length, IfOk, OnOk};
 ghost use Rattle.fr_value.specs.Data.{total};
+ghost use Rattle.fr_core.specs.WellFormed.{deepest_nesting};
 ghost use Rattle.fr_syntax.specs.Outlines.{Global as GlobalName};
 ghost use Rattle.fr_syntax.specs.Weights.{form_weight};
 ghost use Rattle.fr_scope.specs.Meanings.{most_numbered};
-ghost use Rattle.fr_expand.specs.Depths.{deepest_nesting};
 ghost use Rattle.fr_expand.specs.Items.{form_core};
 ghost use Rattle.fr_expand.specs.Passes.{fault_kind, form_kind, nests, nothing_yet, refusal_from};
 ghost use Rattle.fr_expand.specs.Shaped.{earlier_of, AreNamed};

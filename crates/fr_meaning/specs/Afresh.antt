@@ -19,10 +19,6 @@ use Rattle.fr_meaning.specs.Words.{Seen, Env, First, Done, under}
 use Rattle.fr_meaning.specs.Cells.{child}
 use Rattle.fr_meaning.specs.Evaluation.{Ev, world_of, eval}
 
--- the greatest time of an instant, which is the greatest integer of the language
-abbrev pub greatest_time : ℕ
-greatest_time = 9223372036854775807
-
 -- the values of the inputs, where each that is set has its new one
 abbrev pub latest : List Input → List Value → List Entry → List Value
 latest [] vs sets = []

@@ -16,6 +16,7 @@ use Rattle.fr_value.proofs.Limits.{few-Decides, few_passes}
 use Rattle.fr_value.proofs.Meet.{same_some}
 use Rattle.fr_reader.proofs.Sizes.{gap_less, begins_small}
 use Rattle.fr_reader.proofs.Steps.{heads, too_big, stuck, quote_too_big, not_one}
+use Rattle.fr_value.specs.Limits.{data_levels}
 
 -- something is so, or nothing is
 abbrev Found : {A : Type 0} → (A → Type 0) → Type 0
@@ -109,7 +110,7 @@ tells (suc n) t = layer_told n (tells n) t
 
 -- a text reads as one datum, or as none
 pub decided : (text : List ℕ) → ((d : Datum) × ReadsOne text d) ⊎ ((d : Datum) → ReadsOne text d → ⊥)
-decided text = elim (tells 65 (past_gap text)) as (λ _. Found (ReadsOne text)) [
+decided text = elim (tells data_levels (past_gap text)) as (λ _. Found (ReadsOne text)) [
   | inl x ↦ elim (past_gap x.0.1) as (λ r. past_gap x.0.1 ≡ r → Found (ReadsOne text)) [
     | [] ↦ λ e. inl (x.0.0, (x.0.1, x.1, sym e))
     | b ∷ bs ↦ λ e. inr (not_one text x.0.0 x.0.1 x.1 (λ k. omega (arith, ap length (sym e ∙ k))))

@@ -23,6 +23,7 @@ use Rattle.fr_value.specs.Text.{escaped, spaced, spaced_behind, datum_text, text
 use Rattle.fr_value.proofs.Meet.{no_atom}
 use Rattle.fr_reader.proofs.Steps.{as_atom}
 use Rattle.fr_reader.proofs.Numerals.{numeral_from, fits_of}
+use Rattle.fr_value.specs.Limits.{most_size, most_depth, data_levels}
 
 -- a string's printed bytes give the string
 string_again : (s more : List ℕ) → string false (escaped s ++ 34 ∷ more) ≡ Some (s, more)
@@ -219,16 +220,16 @@ int_atom (negsuc n) h = let k = decimal_is_IsNumeral (suc n) (omega (arith, (fit
 
 -- what is valid and within the limits, on fewer levels than these, is read again
 abbrev Holds : ℕ → Begins → Datum → Type 0
-Holds n one d = is_valid d ≡ true → datum_depth d < n → datum_size d ≤ 1048576 → Again one d
+Holds n one d = is_valid d ≡ true → datum_depth d < n → datum_size d ≤ most_size → Again one d
 
-each_again : (n : ℕ) (one : Begins) → ((d : Datum) → Holds n one d) → (ds : List Datum) → are_valid ds ≡ true → greatest (map datum_depth ds) < n → total (map datum_size ds) ≤ 1048576
+each_again : (n : ℕ) (one : Begins) → ((d : Datum) → Holds n one d) → (ds : List Datum) → are_valid ds ≡ true → greatest (map datum_depth ds) < n → total (map datum_size ds) ≤ most_size
     → EachAgain one ds
 each_again n one u [] v l s = tt
 each_again n one u (d ∷ ds) v l s =
     let p = and_parts (is_valid d) (are_valid ds) v in
     (u d p.0 (omega (arith, l)) (omega (arith, s)), each_again n one u ds p.1 (omega (arith, l)) (omega (arith, s)))
 
-layer_again : (n : ℕ) → n ≤ 64 → (one : Begins) → ((d : Datum) → Holds n one d) → (f : Datum-F Datum) → Holds (suc n) (Layer one) (roll-Datum f)
+layer_again : (n : ℕ) → n ≤ most_depth → (one : Begins) → ((d : Datum) → Holds n one d) → (f : Datum-F Datum) → Holds (suc n) (Layer one) (roll-Datum f)
 unfolding IsAtom is_true is_false
 layer_again n small one u (Datum-F.Int z) = subst (Holds (suc n) (Layer one)) (sym (rolls-Int z)) (λ v l s. atom_back one (signed_decimal z) (datum.Int z) (text-Int z) (int_atom z (sym (valid-Int z) ∙ v)))
 layer_again n small one u (Datum-F.Bool true) = subst (Holds (suc n) (Layer one)) (sym (rolls-Bool true)) (λ v l s. atom_back one (35 ∷ 116 ∷ []) (datum.Bool true) (text-Bool true) ((refl, (refl, tt)), refl))
@@ -243,14 +244,14 @@ layer_again n small one u (Datum-F.Seq ds) = subst (Holds (suc n) (Layer one)) (
     list_again one ds (omega (arith, seq_size ds, s), omega (arith, seq_depth ds, l, small))
     (each_again n one u ds (sym (valid-Seq ds) ∙ v) (omega (arith, seq_depth ds, l)) (omega (arith, seq_size ds, s))))
 
-again : (n : ℕ) → n ≤ 65 → (d : Datum) → Holds n (begins n) d
+again : (n : ℕ) → n ≤ data_levels → (d : Datum) → Holds n (begins n) d
 unfolding begins
 again zero small d = λ v l s. absurd (omega (arith, l))
 again (suc n) small d = subst (Holds (suc n) (Layer (begins n))) (roll-out-Datum d) (layer_again n (omega (arith, small)) (begins n) (again n (omega (arith, small))) (out-Datum d))
 
 -- the printed text of a valid datum within the limits reads as it
-pub valid_again : (d : Datum) → is_valid d ≡ true → datum_depth d ≤ 64 → datum_size d ≤ 1048576 → ReadsOne (datum_text d) d
+pub valid_again : (d : Datum) → is_valid d ≡ true → datum_depth d ≤ most_depth → datum_size d ≤ most_size → ReadsOne (datum_text d) d
 unfolding past_gap
 valid_again d v l s =
-    let k = again 65 (omega arith) d v (omega (arith, l)) s [] tt in
-    ([], subst (λ x. begins 65 (past_gap x) d []) (append-nil (datum_text d)) (subst (λ x. begins 65 x d []) (sym k.0) k.1), refl)
+    let k = again data_levels (omega arith) d v (omega (arith, l)) s [] tt in
+    ([], subst (λ x. begins data_levels (past_gap x) d []) (append-nil (datum_text d)) (subst (λ x. begins data_levels x d []) (sym k.0) k.1), refl)

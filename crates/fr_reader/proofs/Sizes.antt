@@ -11,6 +11,7 @@ use Rattle.fr_value.specs.declared.value.Value.TheVariants as value
 use Rattle.fr_value.specs.Data.{total, datum_size, size-of, seq_size}
 use Rattle.fr_value.specs.Bytes.{is_blank, is_delimiter, skip, past_gap, atom, past_atom, string, escape, front}
 use Rattle.fr_value.specs.Grammar.{Begins, Where, Items, Layer, IsList, IsQuoted, IsString, IsAtom, is_name, is_true, is_false, quoted, begins, Front}
+use Rattle.fr_value.specs.Limits.{data_levels}
 
 -- what is read takes no more than eight times the bytes
 abbrev pub IsSmall : Begins → Type 0
@@ -98,4 +99,4 @@ begins_small (suc n) t d r h = layer_small (begins n) (begins_small n) t d r h
 
 -- the sizes of what is read are together at most eight times the number of bytes
 pub sizes : (t : List ℕ) (ds : List Datum) (r : List ℕ) → Front t ds r → total (map datum_size ds) ≤ 8 * length t
-sizes t ds r h = omega (arith, items_small (begins 65) (begins_small 65) t ds r h)
+sizes t ds r h = omega (arith, items_small (begins data_levels) (begins_small data_levels) t ds r h)

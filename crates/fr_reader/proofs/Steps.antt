@@ -12,6 +12,7 @@ use Rattle.fr_value.specs.Data.{AreFew, data_of, datum_of}
 use Rattle.fr_value.specs.Bytes.{past_gap, atom, past_atom}
 use Rattle.fr_value.specs.Grammar.{Begins, Items, Layer, IsList, IsQuoted, IsAtom, quoted, begins, Front, ReadsOne, IsRefused, NoStart}
 use Rattle.fr_value.proofs.Meet.{opens, add_item, stops, longest, begins_one, no_close, no_square, no_end}
+use Rattle.fr_value.specs.Limits.{data_levels}
 
 pub by_ok : {A E : Type 0} {P Q : A → Type 0} (r : Result A E) → ((x : A) → P x → Q x) → IfOk r P → IfOk r Q
 by_ok (Ok x) f h = f x h
@@ -100,11 +101,11 @@ next_item n t vs ws rest v after new h k e g =
     (subst (Items (begins n) t (data_of vs ++ datum_of v ∷ [])) (sym g) (add_item (begins n) t (data_of vs) rest (datum_of v) after h k))
 
 -- the number where nothing begins in front of the end
-pub refused : (t : List ℕ) (vs : List Value) (rest : List ℕ) → Front t (data_of vs) rest → NoStart (begins 65) rest → (rest ≡ [] → ⊥) → (k : ℕ) → length vs + 1 ≡ k → IsRefused t k
+pub refused : (t : List ℕ) (vs : List Value) (rest : List ℕ) → Front t (data_of vs) rest → NoStart (begins data_levels) rest → (rest ≡ [] → ⊥) → (k : ℕ) → length vs + 1 ≡ k → IsRefused t k
 refused t vs rest h a some k e = record {
-  none = λ ds r. some (stops (begins 65) (begins_one 65) t (data_of vs) rest ds [] h a r (no_end 65)).1;
+  none = λ ds r. some (stops (begins data_levels) (begins_one data_levels) t (data_of vs) rest ds [] h a r (no_end data_levels)).1;
   before = (data_of vs, rest, h, ap (λ x. x + 1) (length_map vs) ∙ e);
-  most = λ ds r f. omega (arith, longest (begins 65) (begins_one 65) t (data_of vs) rest ds r h a f, length_map vs, e);
+  most = λ ds r f. omega (arith, longest (begins data_levels) (begins_one data_levels) t (data_of vs) rest ds r h a f, length_map vs, e);
 }
   where
     length_map : (vs : List Value) → length (data_of vs) ≡ length vs
@@ -112,9 +113,9 @@ refused t vs rest h a some k e = record {
     length_map (v ∷ vs) = ap suc (length_map vs)
 
 -- something is left behind the first datum
-pub not_one : (t : List ℕ) (d : Datum) (r : List ℕ) → begins 65 (past_gap t) d r → (past_gap r ≡ [] → ⊥) → (e : Datum) → ReadsOne t e → ⊥
+pub not_one : (t : List ℕ) (d : Datum) (r : List ℕ) → begins data_levels (past_gap t) d r → (past_gap r ≡ [] → ⊥) → (e : Datum) → ReadsOne t e → ⊥
 not_one t d r h more e k =
-    let same = begins_one 65 (past_gap t) d e r k.0 h k.1 in
+    let same = begins_one data_levels (past_gap t) d e r k.0 h k.1 in
     more (ap past_gap same.1 ∙ sym k.2)
 
 pub grows : (vs ws : List Value) (v : Value) → ws ≡ vs ++ v ∷ [] → length ws ≡ length vs + 1

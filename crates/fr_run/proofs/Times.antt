@@ -5,6 +5,7 @@ use Rattle.std.proofs.Common.{refl, subst, arith, zero, suc}
 use Rattle.std.proofs.lemmas.Bool.Decides.{nat_tests}
 use Rattle.fr_value.specs.declared.ids.SrcId.{SrcId}
 use Rattle.fr_value.specs.declared.value.Datum.{Datum}
+use Rattle.fr_core.specs.Sets.{greatest_time}
 use Rattle.fr_core.specs.declared.inputs.Entry.{Entry}
 use Rattle.fr_core.specs.declared.inputs.Inputs.{Inputs}
 use Rattle.fr_script.specs.declared.sources.Source.{Source}
@@ -12,7 +13,6 @@ use Rattle.fr_script.specs.declared.turn.LineKind.{LineKind}
 use Rattle.fr_script.specs.declared.turn.LineKind.TheVariants as kind
 use Rattle.fr_script.specs.declared.said.Said.{Said}
 use Rattle.fr_script.specs.declared.said.Said.TheVariants as said
-use Rattle.fr_script.specs.Limits.{greatest_time}
 use Rattle.fr_script.specs.Reading.{reading}
 use Rattle.fr_script.specs.Lines.{Fields, cut, is_blank_line, fields}
 use Rattle.fr_script.specs.Past.{Past}

@@ -1,9 +1,9 @@
 //! What evaluates a program, instant by instant.
 
 ghost use Rattle.std.specs.Prelude.{◌≡◌, ◌≤◌, IfOk, IfErr};
+ghost use Rattle.fr_core.specs.Sets.{greatest_time};
 ghost use Rattle.fr_core.specs.WellFormed.{IsWellFormed};
 ghost use Rattle.fr_meaning.specs.Afresh.{beginning, first_instant, instant as instant_after};
-ghost use Rattle.fr_script.specs.Limits.{greatest_time};
 ghost use Rattle.fr_run.specs.Standing.{Standing, IsBehind, IsCause};
 
 use fr_core::{Inputs, Program};

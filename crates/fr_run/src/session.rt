@@ -3,12 +3,12 @@ ghost use Rattle.std.specs.Prelude.{◌≡◌, ◌≢◌, ◌≤◌, List, ℕ, 
 ghost use Rattle.std.specs.Io.KnownBytes.{Appends};
 ghost use Rattle.fr_io.specs.Faults.{FailsAs, Counts};
 ghost use Rattle.fr_io.specs.Shelves.{Reads};
+ghost use Rattle.fr_core.specs.Sets.{greatest_time};
 ghost use Rattle.fr_core.specs.WellFormed.{IsWellFormed};
 ghost use Rattle.fr_meaning.specs.Texts.{instant_text, next_each};
 ghost use Rattle.fr_meaning.specs.Afresh.{beginning, first_instant, instant as instant_after};
 ghost use Rattle.fr_show.specs.Ends.{EndsThere, StopSays, Begins};
 ghost use Rattle.fr_show.specs.Output.{program_course};
-ghost use Rattle.fr_script.specs.Limits.{greatest_time};
 ghost use Rattle.fr_run.specs.Scripts.{IsFedSome};
 ghost use Rattle.fr_run.specs.Standing.{seen_of, unfinished};
 ghost use Rattle.fr_run.specs.Written.{AreShowsOf, Wrote, CutShort, StopsIn};

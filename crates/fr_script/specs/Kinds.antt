@@ -5,12 +5,12 @@ use Rattle.fr_value.specs.declared.ids.SrcId.{SrcId}
 use Rattle.fr_value.specs.declared.value.Datum.{Datum}
 use Rattle.fr_value.specs.Data.{value_of}
 use Rattle.fr_core.specs.declared.inputs.Inputs.{Inputs}
-use Rattle.fr_core.specs.Sets.{value_in}
+use Rattle.fr_core.specs.Sets.{value_in, greatest_time}
 use Rattle.fr_script.specs.declared.turn.LineKind.TheVariants as kind
 use Rattle.fr_script.specs.declared.sources.Source.{Source}
 use Rattle.fr_script.specs.declared.said.Said.{Said}
 use Rattle.fr_script.specs.declared.said.Said.TheVariants as said
-use Rattle.fr_script.specs.Limits.{line_limit, script_limit, instant_limit, greatest_time}
+use Rattle.fr_script.specs.Limits.{line_limit, script_limit, instant_limit}
 use Rattle.fr_script.specs.Reading.{reading}
 use Rattle.fr_script.specs.Lines.{Fields, is_blank_line, fields}
 use Rattle.fr_script.specs.Past.{Past}

@@ -13,10 +13,6 @@ script_limit = 1099511627776
 abbrev pub instant_limit : ℕ
 instant_limit = 4294967295
 
--- the greatest time of an instant, which is the greatest integer of the language
-abbrev pub greatest_time : ℕ
-greatest_time = 9223372036854775807
-
 -- the greatest number of 64 bits, which stands for a time that is greater
 abbrev pub greatest_number : ℕ
 greatest_number = 2 ^ 64 - 1

@@ -19,6 +19,7 @@ use Rattle.fr_syntax.specs.Weights.{weight, form_weight}
 use Rattle.fr_syntax.proofs.Bounds.{AtMost, then_small, map_small, wider, free, same_size, positive}
 use Rattle.fr_syntax.proofs.Small.{all_sizes, all_weights, IsSmall, two_sizes, three_sizes, two_weights, three_weights, named_weight, bound_weight, clauses_weight, step_weight, ones, twos, threes, items_in, each_small, both_small, triple_small, symbols_small, binding_small, bindings_small, lone_small, clauses_small, handler_small, step_small}
 use Rattle.fr_syntax.proofs.Weights.{weight-Literal, weight-Name, weight-If, weight-Let, weight-LetStar, weight-Cond, weight-And, weight-Or, weight-Fold, weight-Repeat, weight-MapE, weight-FilterE, weight-MergeE, weight-Hold, weight-CollectB, weight-CollectE, weight-Changes, weight-OnceE, weight-Delay, weight-DelayE, weight-Feedback, weight-Call}
+use Rattle.fr_value.specs.Limits.{data_levels}
 
 one_form : (below : Below) → IsSmall below → (make : Expr → Expr) → ((a : Expr) → weight (make a) ≡ 1 + weight a)
     → (ds : List Datum) → AtMost weight (1 + all_sizes ds) (one_part below make ds)
@@ -166,12 +167,12 @@ defined_small : (make : List ℕ → Expr → Form) → ((s : List ℕ) (e : Exp
     → (x : Datum × Datum) → AtMost form_weight (1 + two_sizes x) (named_expr make x)
 defined_small make made x =
     then_small (λ s. option_map (make s) (expr_of x.1)) (symbol_of (value_of x.0)) (λ s. 0) form_weight 0 (1 + two_sizes x) (free (symbol_of (value_of x.0)))
-    (λ s h. map_small (make s) (expr_of x.1) weight form_weight (datum_size x.1) (1 + two_sizes x) (expr_small 65 x.1) (λ e k. omega (arith, k, made s e, positive x.0)))
+    (λ s h. map_small (make s) (expr_of x.1) weight form_weight (datum_size x.1) (1 + two_sizes x) (expr_small data_levels x.1) (λ e k. omega (arith, k, made s e, positive x.0)))
 
 function_small : (ss : List (List ℕ)) (body : Datum) (n : ℕ) → length ss ≤ n → AtMost form_weight (1 + n + datum_size body) (function_with ss body)
 function_small [] body n h = tt
 function_small (name ∷ params) body n h =
-    map_small (form.Function name params) (expr_of body) weight form_weight (datum_size body) (1 + n + datum_size body) (expr_small 65 body) (λ e k. omega (arith, h, k))
+    map_small (form.Function name params) (expr_of body) weight form_weight (datum_size body) (1 + n + datum_size body) (expr_small data_levels body) (λ e k. omega (arith, h, k))
 
 define_small : (v : Value) (x : Datum × Datum) → value_size v ≡ datum_size x.0 → AtMost form_weight (1 + two_sizes x) (define_at v x)
 define_small (value.List head) x same =

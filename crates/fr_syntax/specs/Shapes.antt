@@ -2,6 +2,7 @@
 use Rattle.std.specs.Prelude.{ℕ, zero, suc, List, [], ◌∷◌, Option, Some, None}
 use Rattle.std.specs.Option.{option_map, option_and_then}
 use Rattle.fr_value.specs.Data.{value_of}
+use Rattle.fr_value.specs.Limits.{data_levels}
 use Rattle.fr_value.specs.declared.value.Datum.{Datum}
 use Rattle.fr_value.specs.declared.value.Value.{Value}
 use Rattle.fr_value.specs.declared.value.Value.TheVariants as value
@@ -206,9 +207,9 @@ unfoldable pub expr_to : ℕ → Below
 expr_to zero d = None
 expr_to (suc n) d = expr_at (expr_to n) (value_of d)
 
--- the expression that a datum is: no datum nests above 64, and its leaves stand one level below
+-- the expression that a datum is: its parts are data, and nest no deeper than data do
 abbrev pub expr_of : Datum → Option Expr
-expr_of = expr_to 65
+expr_of = expr_to data_levels
 
 -- `NAME EXPR`
 abbrev pub named_expr : (List ℕ → Expr → Form) → Datum × Datum → Option Form

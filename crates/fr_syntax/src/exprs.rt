@@ -16,7 +16,7 @@ use fr_value::{List, Symbol, Value};
 use sqlite_items::Items;
 use std::alloc::{AllocError, Global};
 
-/// How deep expressions nest: no datum nests above 64, and its leaves stand one level below.
+/// How deep expressions nest: as deep as data, whose leaves stand one level below their deepest lists.
 pub(crate) const LEVELS: u32 = 65;
 
 /// The expression that a value is, to a number of nested levels; None where it is none.

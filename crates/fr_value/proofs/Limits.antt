@@ -6,12 +6,13 @@ use Rattle.std.proofs.lemmas.Bool.Decides.{Decides-and}
 use Rattle.fr_value.specs.declared.value.Datum.{Datum}
 use Rattle.fr_value.specs.Bytes.{is_short}
 use Rattle.fr_value.specs.Data.{AreFew, few, data_size, data_depth}
+use Rattle.fr_value.specs.Limits.{most_bytes, most_size, most_depth}
 
-pub short-Decides : (s : List ℕ) → Decides (is_short s) (length s ≤ 1048575)
-short-Decides s = (leb-true (length s) 1048575, le-leb (length s) 1048575)
+pub short-Decides : (s : List ℕ) → Decides (is_short s) (length s ≤ most_bytes)
+short-Decides s = (leb-true (length s) most_bytes, le-leb (length s) most_bytes)
 
 pub few-Decides : (ds : List Datum) → Decides (few ds) (AreFew ds)
-few-Decides ds = Decides-and _ _ (leb-true (data_size ds) 1048576, le-leb (data_size ds) 1048576) (leb-true (data_depth ds) 64, le-leb (data_depth ds) 64)
+few-Decides ds = Decides-and _ _ (leb-true (data_size ds) most_size, le-leb (data_size ds) most_size) (leb-true (data_depth ds) most_depth, le-leb (data_depth ds) most_depth)
 
 pub few_passes : (ds : List Datum) → AreFew ds → few ds ≡ true
 few_passes ds = (few-Decides ds).1

@@ -5,6 +5,7 @@ use Rattle.fr_value.specs.declared.value.Value.{Value}
 use Rattle.fr_value.specs.declared.value.Datum.{Datum}
 use Rattle.fr_value.specs.Valid.{is_valid, are_valid}
 use Rattle.fr_value.specs.Data.{data_of, data_size, data_depth, datum_of, datum_size, datum_depth, value_size, value_depth, size-of, depth-of, total, greatest, AreFew}
+use Rattle.fr_value.specs.Limits.{most_size, most_depth}
 
 abbrev pub rest_of : List Value → ℕ → List Datum
 rest_of vs i = data_of (drop i vs)
@@ -28,7 +29,7 @@ step vs i size depth h s v e w =
 
 -- the next item is too large, or too deep
 pub too_big : (vs : List Value) (i size depth : ℕ) → i < length vs → Split vs i size depth → (v : Value) → v ≡ get_or vs i v
-    → is_valid (datum_of v) ≡ true → (1048576 < size + value_size v) ⊎ (64 < value_depth v + 1) → AreFew (data_of vs) → ⊥
+    → is_valid (datum_of v) ≡ true → (most_size < size + value_size v) ⊎ (most_depth < value_depth v + 1) → AreFew (data_of vs) → ⊥
 too_big vs i size depth h s v e w (inl big) few = let t = step vs i size depth h s v e w in omega (arith, t.sized, few.0)
 too_big vs i size depth h s v e w (inr big) few = let t = step vs i size depth h s v e w in omega (arith, t.deep, few.1)
 

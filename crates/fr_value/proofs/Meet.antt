@@ -5,6 +5,7 @@ use Rattle.fr_value.specs.declared.value.Datum.{Datum}
 use Rattle.fr_value.specs.declared.value.Datum.TheVariants as datum
 use Rattle.fr_value.specs.Bytes.{past_gap, atom}
 use Rattle.fr_value.specs.Grammar.{Begins, Where, Items, Layer, IsList, IsQuoted, IsString, IsAtom, is_name, is_true, is_false, quoted, begins, Reads, NoStart}
+use Rattle.fr_value.specs.Limits.{data_levels}
 
 -- each text begins with one datum at most
 abbrev pub IsOne : Begins → Type 0
@@ -119,7 +120,7 @@ begins_one (suc n) t d e r s h k = layer_one (begins n) (begins_one n) (no_close
 
 -- a text has one reading at most
 pub reads_one : (t : List ℕ) (ds es : List Datum) → Reads t ds → Reads t es → ds ≡ es
-reads_one t ds es h k = (stops (begins 65) (begins_one 65) t ds [] es [] h (no_end 65) k (no_end 65)).0
+reads_one t ds es h k = (stops (begins data_levels) (begins_one data_levels) t ds [] es [] h (no_end data_levels) k (no_end data_levels)).0
 
 -- one level opens
 pub opens : (n : ℕ) (t : List ℕ) (d : Datum) (r : List ℕ) → n ≢ 0 → begins n t d r ≡ Layer (begins (n - 1)) t d r

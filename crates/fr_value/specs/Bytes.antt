@@ -1,6 +1,7 @@
 -- Blanks, comments, atoms, symbols and strings, on lists of bytes.
 use Rattle.std.specs.Prelude.{ℕ, Bool, true, false, ◌||◌, ◌&&◌, ◌==◌, not, nat_le, cond, ◌++◌, List, [], ◌∷◌, length, Option, Some, None}
 use Rattle.std.specs.Option.{option_map, option_and_then}
+use Rattle.fr_value.specs.Limits.{most_bytes}
 
 -- a tab, a newline, a carriage return or a space
 abbrev pub is_blank : ℕ → Bool
@@ -83,4 +84,4 @@ is_name (b ∷ bs) = are_symbol_bytes (b ∷ bs) && not (b == 46 && is_empty bs)
 
 -- at most as many bytes as a symbol or a string may have
 abbrev pub is_short : List ℕ → Bool
-is_short s = nat_le (length s) 1048575
+is_short s = nat_le (length s) most_bytes

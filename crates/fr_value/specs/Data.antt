@@ -6,6 +6,7 @@ use Rattle.fr_value.specs.declared.value.Datum.TheOpen.{Datum-F}
 use Rattle.fr_value.specs.declared.value.Datum.TheVariants as datum
 use Rattle.fr_value.specs.declared.value.Datum.TheVariants.{rolls-Int, rolls-Bool, rolls-Sym, rolls-Str, rolls-Seq}
 use Rattle.std.proofs.Common.{sym, ◌∙◌, ap, subst, arith}
+use Rattle.fr_value.specs.Limits.{most_size, most_depth}
 use Rattle.fr_value.specs.Valid.{are_valid}
 use Rattle.fr_value.specs.declared.value.Value.{Value}
 use Rattle.fr_value.specs.declared.value.Value.TheVariants as value
@@ -41,14 +42,25 @@ abbrev pub more_data : More → List Datum
 more_data more.Zero = []
 more_data (more.Row t ds) = (t.value.0 ∷ t.value.1) ++ ds
 
--- the data of a list, and the number of items that it keeps
+-- the data of a list
 abbrev pub list_data : Option Block → List Datum
 list_data None = []
 list_data (Some b) = data_of b.front.items ++ more_data b.more
 
+-- the number of items that a list keeps
 abbrev pub list_len : Option Block → ℕ
 list_len None = 0
 list_len (Some b) = b.len
+
+-- the size that a list keeps
+abbrev pub list_size : Option Block → ℕ
+list_size None = 1
+list_size (Some b) = b.size
+
+-- the depth that a list keeps
+abbrev pub list_depth : Option Block → ℕ
+list_depth None = 1
+list_depth (Some b) = b.depth
 
 -- the sum of numbers
 abbrev pub total : List ℕ → ℕ
@@ -97,9 +109,13 @@ pub record IsMeasured (len size depth : ℕ) (ds : List Datum) : Type 0 where
   pub len_is : len ≡ length ds
   pub size_is : size ≡ data_size ds
   pub depth_is : depth ≡ data_depth ds
-  pub small : data_size ds ≤ 1048576
-  pub shallow : data_depth ds ≤ 64
+  pub small : data_size ds ≤ most_size
+  pub shallow : data_depth ds ≤ most_depth
   pub valid : are_valid ds ≡ true
+
+-- a list's kept numbers are those of its data
+abbrev pub IsKept : Option Block → Type 0
+IsKept b = IsMeasured (list_len b) (list_size b) (list_depth b) (list_data b)
 
 step_positive : (f : Datum-F ℕ) → 1 ≤ size_step f
 step_positive (Datum-F.Int n) = omega arith
@@ -186,11 +202,11 @@ depth-of (value.List ds) = seq_depth ds
 
 -- a list of these data is within the limits on size and depth
 abbrev pub AreFew : List Datum → Type 0
-AreFew ds = (data_size ds ≤ 1048576) × (data_depth ds ≤ 64)
+AreFew ds = (data_size ds ≤ most_size) × (data_depth ds ≤ most_depth)
 
 -- the same as a test
 abbrev pub few : List Datum → Bool
-few ds = nat_le (data_size ds) 1048576 && nat_le (data_depth ds) 64
+few ds = nat_le (data_size ds) most_size && nat_le (data_depth ds) most_depth
 
 -- the data behind the first, if there is one
 abbrev pub behind : List Datum → Option (List Datum)

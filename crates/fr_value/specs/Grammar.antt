@@ -6,6 +6,7 @@ use Rattle.fr_value.specs.declared.value.Datum.{Datum}
 use Rattle.fr_value.specs.declared.value.Datum.TheVariants as datum
 use Rattle.fr_value.specs.Valid.{fits}
 use Rattle.fr_value.specs.Data.{AreFew}
+use Rattle.fr_value.specs.Limits.{data_levels}
 use Rattle.fr_value.specs.Bytes.{past_gap, atom, past_atom, string}
 pub use Rattle.fr_value.specs.Bytes.{is_empty, is_letter, is_symbol_byte, are_symbol_bytes, begins_with_digit, without, is_name, is_short}
 
@@ -73,7 +74,7 @@ Layer one (b ∷ text) d rest =
     (Where (b == 34) (IsString text d rest)
     (IsAtom (atom (b ∷ text)) d × (rest ≡ past_atom (b ∷ text))))))
 
--- a datum at the front, to a number of nested levels; 65 are a leaf in as many lists as the limit on depth allows
+-- a datum at the front, to a number of nested levels
 unfoldable pub begins : ℕ → Begins
 begins zero text d rest = ⊥
 begins (suc n) text d rest = Layer (begins n) text d rest
@@ -84,7 +85,7 @@ NoStart one text = (d : Datum) (rest : List ℕ) → one text d rest → ⊥
 
 -- the front of a text reads as these data, and what is left behind them and the blanks and comments there
 abbrev pub Front : List ℕ → List Datum → List ℕ → Type 0
-Front = Items (begins 65)
+Front = Items (begins data_levels)
 
 -- a text reads as these data
 abbrev pub Reads : List ℕ → List Datum → Type 0

@@ -1,5 +1,6 @@
 ghost use Rattle.std.specs.Prelude.{◌≡◌, ◌≤◌, ◌∷◌, [], ◌++◌, true, length, IfOk, Err};
 ghost use Rattle.fr_value.specs.Data.{data_of, data_size, data_depth, datum_of, AreFew, IsMeasured, behind, kids_data, more_data};
+ghost use Rattle.fr_value.specs.Limits.{most_size, most_depth};
 ghost use Rattle.fr_value.specs.Valid.{are_valid};
 
 mod items;
@@ -28,8 +29,6 @@ const LEAF: usize = 36;
 pub struct List {
     // None where the list is empty, so that the empty list takes no memory
     block: Option<Rc<Block>>,
-    size: u32,
-    depth: u32,
 }
 
 // A list is its first items in one vector, and then a row of trees, each of an item and a vector behind it. The first two
@@ -42,6 +41,9 @@ struct Block {
     front: Vec<Value>,
     more: More,
     len: u32,
+    // of the whole list: a list is one pointer, so that a value is small
+    size: u32,
+    depth: u32,
 }
 
 /// The items of a tree and then those of a list.
@@ -62,12 +64,12 @@ impl Model for List {
 
     ghost coded = { coded_list d.the_row.coded };
 
-    ghost use Rattle.fr_value.specs.Data.{list_data, list_len, data_size, IsMeasured};
+    ghost use Rattle.fr_value.specs.Data.{list_data, data_size, IsKept};
     ghost use Rattle.std.specs.Option.{option_map};
 
     ghost view = { λ a. list_data (option_map (λ r. r.value) a.block) };
 
-    ghost invariant = { λ a. IsMeasured (list_len (option_map (λ r. r.value) a.block)) a.size a.depth (list_data (option_map (λ r. r.value) a.block)) };
+    ghost invariant = { λ a. IsKept (option_map (λ r. r.value) a.block) };
 
     ghost size = { λ ds. 2 * data_size ds + 1 };
 
@@ -75,7 +77,7 @@ impl Model for List {
     ghost use Rattle.fr_value.specs.DataFalls.{block_falls};
     ghost use Rattle.std.proofs.Common.{arith};
 
-    ghost size_decreases = { λ a h. elim a.block as (λ s. deep-List (record { block = s; size = a.size; depth = a.depth }) ≤ 2 * data_size (list_data (option_map (λ r. r.value) s)) + 1) [ Some r ↦ omega (arith, block_falls r.value) | None ↦ omega arith ] };
+    ghost size_decreases = { λ a h. elim a.block as (λ s. deep-List (record { block = s }) ≤ 2 * data_size (list_data (option_map (λ r. r.value) s)) + 1) [ Some r ↦ omega (arith, block_falls r.value) | None ↦ omega arith ] };
 }
 
 /// Why a list was not made.
@@ -103,11 +105,7 @@ impl List {
     pub fn empty() -> List
         ensures { result ≡ [] }
     {
-        List {
-            block: None,
-            size: 1,
-            depth: 1,
-        }
+        List { block: None }
     }
 
     /// The number of items.
@@ -123,18 +121,24 @@ impl List {
     /// 1 and the sizes of the items, which are valid as every value is.
     pub fn size(&self) -> u32
         ensures value { result ≡ data_size self.now }
-        ensures small { result ≤ 1048576 }
+        ensures small { result ≤ most_size }
         ensures valid { are_valid self.now ≡ true }
     {
-        self.size
+        match &self.block {
+            Some(b) => b.size,
+            None => 1,
+        }
     }
 
     /// 1 and the greatest depth of an item, or 1 where there is none.
     pub fn depth(&self) -> u32
         ensures value { result ≡ data_depth self.now }
-        ensures small { result ≤ 64 }
+        ensures small { result ≤ most_depth }
     {
-        self.depth
+        match &self.block {
+            Some(b) => b.depth,
+            None => 1,
+        }
     }
 
     /// The number of items, and the size and depth.
@@ -142,8 +146,8 @@ impl List {
         ensures { IsMeasured result.0 result.1 result.2 self.now }
     {
         match &self.block {
-            Some(b) => (b.len, self.size, self.depth),
-            None => (0, self.size, self.depth),
+            Some(b) => (b.len, b.size, b.depth),
+            None => (0, 1, 1),
         }
     }
 
@@ -155,11 +159,7 @@ impl List {
             Some(b) => Some(b.clone()?),
             None => None,
         };
-        Ok(List {
-            block,
-            size: self.size,
-            depth: self.depth,
-        })
+        Ok(List { block })
     }
 }
 
@@ -262,12 +262,17 @@ fn block_of(alloc: Global, front: Vec<Value>, more: More) -> Result<List, AllocE
     if len == 0 {
         return Ok(List::empty());
     }
-    let block = Rc::new(alloc, Block { front, more, len })?;
-    Ok(List {
-        block: Some(block),
-        size,
-        depth,
-    })
+    let block = Rc::new(
+        alloc,
+        Block {
+            front,
+            more,
+            len,
+            size,
+            depth,
+        },
+    )?;
+    Ok(List { block: Some(block) })
 }
 
 /// The first two trees and the list behind them, unless the second is more than twice as long; else no tree, and the

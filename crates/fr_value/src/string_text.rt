@@ -1,8 +1,8 @@
 ghost use Rattle.std.specs.Prelude.{◌≡◌, ℕ, List, ◌≤◌, IfOk, length, IsTrue, ◌↔◌, true};
 ghost use Rattle.std.specs.Str.{is_utf8};
 ghost use Rattle.std.specs.Rc.{rc_str_bytes};
+ghost use Rattle.fr_value.specs.Limits.{most_bytes};
 
-use crate::bounds::MAX_TEXT_BYTES;
 use std::alloc::{AllocError, Global};
 use std::marker::Model;
 use std::rc::RcStr;
@@ -18,13 +18,13 @@ impl Model for Text {
 
     ghost view = { λ t. rc_str_bytes t.text };
 
-    ghost invariant = { λ t. length (rc_str_bytes t.text) ≤ 1048575 };
+    ghost invariant = { λ t. length (rc_str_bytes t.text) ≤ most_bytes };
 }
 
 impl Text {
     /// A text that holds a copy of this one.
     pub fn from_str(alloc: Global, text: &str) -> Result<Text, AllocError>
-        requires { length text.now ≤ MAX_TEXT_BYTES }
+        requires { length text.now ≤ most_bytes }
         ensures { IfOk result (λ t. t ≡ text.now) }
     {
         Ok(Text {
@@ -44,7 +44,7 @@ impl Text {
     /// The number of its bytes, which are UTF-8 and at most `MAX_TEXT_BYTES`.
     pub fn len(&self) -> usize
         ensures value { result ≡ length self.now }
-        ensures small { result ≤ 1048575 }
+        ensures small { result ≤ most_bytes }
         ensures utf8 { is_utf8 self.now ≡ true }
     {
         self.text.as_str().len()

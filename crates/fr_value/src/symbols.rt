@@ -1,5 +1,6 @@
 ghost use Rattle.std.specs.Prelude.{◌≡◌, ◌≤◌, IfOk, length, IsTrue, ◌↔◌, true, false, Err};
 ghost use Rattle.fr_value.specs.Bytes.{is_name, is_short};
+ghost use Rattle.fr_value.specs.Limits.{most_bytes};
 
 use crate::bounds::MAX_TEXT_BYTES;
 use crate::names::symbol;
@@ -52,7 +53,7 @@ impl Symbol {
     /// `NoSymbol` comes exactly where they are none, however long, and `TooLong` exactly where they are one and more than
     /// `MAX_TEXT_BYTES`.
     pub fn from_bytes(alloc: Global, bytes: &[u8]) -> Result<Symbol, SymbolRefusal>
-        ensures ok { IfOk result (λ s. (s ≡ bytes.now) × (is_name bytes.now ≡ true) × (length bytes.now ≤ 1048575)) }
+        ensures ok { IfOk result (λ s. (s ≡ bytes.now) × (is_name bytes.now ≡ true) × (length bytes.now ≤ most_bytes)) }
         ensures no_symbol { result ≡ Err SymbolRefusal.NoSymbol → is_name bytes.now ≡ false }
         ensures too_long { result ≡ Err SymbolRefusal.TooLong → (is_name bytes.now ≡ true) × (is_short bytes.now ≡ false) }
     {
@@ -68,7 +69,7 @@ impl Symbol {
     /// The symbol that holds a copy of a text that is one.
     pub fn from_str(alloc: Global, text: &str) -> Result<Symbol, AllocError>
         requires symbol { is_name text.now ≡ true }
-        requires small { length text.now ≤ MAX_TEXT_BYTES }
+        requires small { length text.now ≤ most_bytes }
         ensures { IfOk result (λ s. s ≡ text.now) }
     {
         Ok(Symbol {
@@ -88,7 +89,7 @@ impl Symbol {
     /// The number of its bytes, which are a symbol and at most `MAX_TEXT_BYTES`.
     pub fn len(&self) -> usize
         ensures value { result ≡ length self.now }
-        ensures small { result ≤ 1048575 }
+        ensures small { result ≤ most_bytes }
         ensures symbol { is_name self.now ≡ true }
     {
         self.text.len()

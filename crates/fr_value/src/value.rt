@@ -1,5 +1,6 @@
 ghost use Rattle.std.specs.Prelude.{◌≡◌, ◌≤◌, true, IfOk};
 ghost use Rattle.fr_value.specs.Data.{datum_of, value_size, value_depth};
+ghost use Rattle.fr_value.specs.Limits.{most_size, most_depth};
 ghost use Rattle.fr_value.specs.Valid.{is_valid};
 
 use crate::list::List;
@@ -59,7 +60,7 @@ impl Value {
     #[tactic(auto, using(crate::proofs::Validity::valid_of))]
     pub fn size(&self) -> u64
         ensures value { result ≡ value_size self.now }
-        ensures small { result ≤ 1048576 }
+        ensures small { result ≤ most_size }
         ensures valid { is_valid (datum_of self.now) ≡ true }
     {
         match self {
@@ -78,7 +79,7 @@ impl Value {
     /// A list's own depth, and 0 for anything else.
     pub fn depth(&self) -> u32
         ensures value { result ≡ value_depth self.now }
-        ensures small { result ≤ 64 }
+        ensures small { result ≤ most_depth }
     {
         match self {
             Value::List(l) => l.depth(),
