@@ -1,33 +1,19 @@
 -- What each call makes of the places, and what contracts see of it.
-use Rattle.std.proofs.Common.{◌≡◌, ◌≢◌, ℕ, suc, ◌+◌, ◌*◌, ◌/◌, ◌^◌, ◌<◌, ◌≤◌, List, [], ◌∷◌, ◌++◌, length, map, max, inl, inr, Option, Some, None, IsSome, IsTrue, Bool, true, false, cond, nat_eq, slice_get, Vec, Global, vec_len, slice_index_or, slice_set, refl, sym, ap, ◌∙◌, subst, arith, add-one}
+use Rattle.std.proofs.Common.{◌≡◌, ◌≢◌, ℕ, suc, ◌+◌, ◌/◌, ◌^◌, ◌<◌, ◌≤◌, List, [], ◌∷◌, ◌++◌, length, map, max, inl, inr, Option, Some, None, IsSome, IsTrue, Bool, true, false, cond, nat_eq, slice_get, slice_index_or, slice_set, refl, sym, ap, ◌∙◌, subst, arith, add-one}
 use Rattle.std.specs.List.{range_with_len}
-use Rattle.std.proofs.lemmas.List.{get_or_read, length-map, map-id}
+use Rattle.std.proofs.lemmas.List.{length-map, map-id}
 use Rattle.std.proofs.lemmas.List.FromFn.{length-map-range_with_len}
 use Rattle.fr_links.specs.declared.place.Place.{Place}
+use Rattle.fr_links.specs.declared.place.Places.{Places}
 use Rattle.fr_links.specs.Lists.{Linked, has_item, list_at, list_of, others, with_empty, with_first, with_last, without}
-use Rattle.fr_links.specs.Rings.{AreRings, IsLinked, Puts, TakesOut, item_place, items_in, linked, list_place, next_of, place_at, previous_of, ring_of}
+use Rattle.fr_links.specs.Rings.{AreRings, IsLinked, IsThere, Puts, SameSize, TakesOut, item_place, items_in, linked, list_place, next_of, place_at, previous_of, ring_of}
 use Rattle.fr_links.proofs.Has.{by_truth, eq_apart, eq_is, eq_self, half_item, half_list, has_append_cases, item_no_list, or_case, there, true_false}
 use Rattle.fr_links.proofs.Kept.{after_place, before_place, first_is, grown, item_there, last_is, one_list, put_first, put_last, taken_out}
 use Rattle.fr_links.proofs.Others.{others_has}
+use Rattle.fr_links.proofs.Places.{read_item, there_item, there_list}
 use Rattle.fr_links.proofs.Seen.{as_seen, first_item, has_at, items_seen, next_item}
 use Rattle.fr_links.proofs.Segments.{back_again, first_in, last_in}
 use Rattle.fr_links.proofs.Views.{found, in_none, in_some, inside, list_at_is, not_found, view_grown, view_map, view_set}
-
--- a vector's length is that of its items
-pub in_vec : (places : Vec Place Global) (p : ℕ) → p < length places.items → p < vec_len places
-in_vec places p h = subst (λ (n : ℕ). p < n) (sym places.ok.0) h
-
-pub from_vec : (places : Vec Place Global) (n : ℕ) → n ≤ vec_len places → n ≤ length places.items
-from_vec places n h = subst (λ (m : ℕ). n ≤ m) places.ok.0 h
-
-pub still_room : (old new : Vec Place Global) (n : ℕ) → n ≤ length old.items → vec_len old ≤ vec_len new → n ≤ length new.items
-still_room old new n h more =
-    let was : vec_len old ≡ length old.items = old.ok.0 in
-    let now : vec_len new ≡ length new.items = new.ok.0 in
-    omega arith
-
-pub from_few : (places : Vec Place Global) (n : ℕ) → vec_len places ≤ n → length places.items ≤ n
-from_few places n h = subst (λ (m : ℕ). m ≤ n) places.ok.0 h
 
 abbrev make : List (List ℕ) → ℕ → Linked
 make lists items = record { lists = lists; items = items }
@@ -35,7 +21,7 @@ make lists items = record { lists = lists; items = items }
 same_linked : (xs ys : List (List ℕ)) (m n : ℕ) → xs ≡ ys → m ≡ n → make xs m ≡ make ys n
 same_linked xs ys m n e f = ap (λ (zs : List (List ℕ)). make zs m) e ∙ ap (make ys) f
 
-module _ (places : List Place) (lists items : ℕ) (k : IsLinked places lists items) (v : Linked) (is : linked places lists items ≡ v) where
+module _ (places : Places) (lists items : ℕ) (k : IsLinked places lists items) (v : Linked) (is : linked places lists items ≡ v) where
   abbrev in_list : ℕ → List ℕ
   in_list l = items_in places items l
 
@@ -64,46 +50,46 @@ module _ (places : List Place) (lists items : ℕ) (k : IsLinked places lists it
   list_fits l h =
       let below : l < lists = list_below l h in
       let room = k.for_lists in
-      let few = k.few in
+      let few = k.few_lists in
       omega arith
 
-  pub list_bound : (l : ℕ) → l < lists → list_place l < length places
-  list_bound l below = let room = k.for_lists in omega arith
+  pub list_bound : (l : ℕ) → l < lists → IsThere places (list_place l)
+  list_bound l below = let room = k.for_lists in there_list places l (omega arith)
 
-  pub item_bound : (i : ℕ) → i < items → item_place i < length places
-  item_bound i below = let room = k.for_items in omega arith
+  pub item_bound : (i : ℕ) → i < items → IsThere places (item_place i)
+  item_bound i below = let room = k.for_items in there_item places i (omega arith)
 
   pub item_fits : (i : ℕ) → i < items → i < 2 ^ 31
   item_fits i below =
       let room = k.for_items in
-      let few = k.few in
+      let few = k.few_items in
       omega arith
 
   pub item_stands_fits : (i : ℕ) → IsSome (list_of v.lists i) → i < items
   item_stands_fits i s = let at = stands i s in k.rings.small at.0 i at.1
 
   -- each place of a ring is a place
-  ring_bound : (l p : ℕ) → l < lists → has_item (list_place l ∷ map item_place (in_list l)) p ≡ true → p < length places
+  ring_bound : (l p : ℕ) → l < lists → has_item (list_place l ∷ map item_place (in_list l)) p ≡ true → IsThere places p
   ring_bound l p below h = or_case (nat_eq (list_place l) p) (has_item (map item_place (in_list l)) p) h
-      (λ e. subst (λ (q : ℕ). q < length places) (eq_is (list_place l) p e) (list_bound l below))
-      (λ later. let r = item_there (in_list l) p later in subst (λ (q : ℕ). q < length places) (sym r.1) (item_bound r.0 (k.rings.small l r.0 r.2)))
+      (λ e. subst (IsThere places) (eq_is (list_place l) p e) (list_bound l below))
+      (λ later. let r = item_there (in_list l) p later in subst (IsThere places) (sym r.1) (item_bound r.0 (k.rings.small l r.0 r.2)))
 
-  ring_bound_too : (l p : ℕ) → l < lists → has_item (map item_place (in_list l) ++ list_place l ∷ []) p ≡ true → p < length places
+  ring_bound_too : (l p : ℕ) → l < lists → has_item (map item_place (in_list l) ++ list_place l ∷ []) p ≡ true → IsThere places p
   ring_bound_too l p below h = elim (has_append_cases (map item_place (in_list l)) (list_place l ∷ []) p h) [
     | inl early ↦ ring_bound l p below (there (list_place l) p (map item_place (in_list l)) early)
-    | inr last ↦ or_case (nat_eq (list_place l) p) false last (λ e. subst (λ (q : ℕ). q < length places) (eq_is (list_place l) p e) (list_bound l below))
+    | inr last ↦ or_case (nat_eq (list_place l) p) false last (λ e. subst (IsThere places) (eq_is (list_place l) p e) (list_bound l below))
         (λ f. cc)
   ]
 
-  pub last_bound : (l r : ℕ) → l < lists → r ≡ list_place l → previous_of places r < length places
+  pub last_bound : (l r : ℕ) → l < lists → r ≡ list_place l → IsThere places (previous_of places r)
   last_bound l r below e =
-      subst (λ (q : ℕ). previous_of places q < length places) (sym e)
+      subst (λ (q : ℕ). IsThere places (previous_of places q)) (sym e)
       (ring_bound l (previous_of places (list_place l)) below
       (last_in (next_of places) (previous_of places) (list_place l) (map item_place (in_list l)) (list_place l) (k.rings.segment l)))
 
-  pub first_bound : (l r : ℕ) → l < lists → r ≡ list_place l → next_of places r < length places
+  pub first_bound : (l r : ℕ) → l < lists → r ≡ list_place l → IsThere places (next_of places r)
   first_bound l r below e =
-      subst (λ (q : ℕ). next_of places q < length places) (sym e)
+      subst (λ (q : ℕ). IsThere places (next_of places q)) (sym e)
       (ring_bound_too l (next_of places (list_place l)) below
       (first_in (next_of places) (previous_of places) (list_place l) (map item_place (in_list l)) (list_place l) (k.rings.segment l)))
 
@@ -122,45 +108,40 @@ module _ (places : List Place) (lists items : ℕ) (k : IsLinked places lists it
       subst (λ (q : ℕ). ring_of places (next_of places q) ≡ list_place l) (sym e)
       (first_is (next_of places) (previous_of places) (ring_of places) lists items in_list k.rings l)
 
-  pub read : (p : ℕ) (x : Place) → p < length places → x ≡ slice_index_or places p x → x ≡ place_at places p
-  read p x below e = get_or_read places p x below e (record { next = p; previous = p; ring = p })
-
   -- the first place of a list, as it is read for a push in front
-  module _ (l r : ℕ) (x : Place) (in_lists : l < length v.lists) (er : r ≡ list_place l) (e : x ≡ slice_index_or places r x) where
-    pub list_in_places : r < length places
-    list_in_places = subst (λ (q : ℕ). q < length places) (sym er) (list_bound l (list_below l in_lists))
+  module _ (l r n : ℕ) (in_lists : l < length v.lists) (er : r ≡ list_place l) (e : n ≡ next_of places r) where
+    pub list_in_places : IsThere places r
+    list_in_places = subst (IsThere places) (sym er) (list_bound l (list_below l in_lists))
 
-    pub first_links : x.next ≡ next_of places r
-    first_links = ap (λ (y : Place). y.next) (read r x list_in_places e)
+    pub front_before_bound : IsThere places n
+    front_before_bound = subst (IsThere places) (sym e) (first_bound l r (list_below l in_lists) er)
 
-    pub front_before_bound : x.next < length places
-    front_before_bound = subst (λ (q : ℕ). q < length places) (sym first_links) (first_bound l r (list_below l in_lists) er)
-
-    front_last_is : previous_of places x.next ≡ r
+    front_last_is : previous_of places n ≡ r
     front_last_is =
-        ap (previous_of places) (first_links ∙ ap (next_of places) er)
+        ap (previous_of places) (e ∙ ap (next_of places) er)
         ∙ back_again (next_of places) (previous_of places) (list_place l) (map item_place (in_list l)) (k.rings.segment l) ∙ sym er
 
-    pub front_last_bound : previous_of places x.next < length places
-    front_last_bound = subst (λ (q : ℕ). q < length places) (sym front_last_is) list_in_places
+    pub front_last_bound : IsThere places (previous_of places n)
+    front_last_bound = subst (IsThere places) (sym front_last_is) list_in_places
 
     module _ (i p : ℕ) (none : list_of v.lists i ≡ None) (ep : p ≡ item_place i) where
-      pub front_not_before : p ≢ x.next
-      front_not_before = not_in_ring l i p x.next none ep (ap (ring_of places) first_links ∙ ring_of_first l r er)
+      pub front_not_before : p ≢ n
+      front_not_before = not_in_ring l i p n none ep (ap (ring_of places) e ∙ ring_of_first l r er)
 
-      pub front_not_last : p ≢ previous_of places x.next
-      front_not_last = not_in_ring l i p (previous_of places x.next) none ep (ap (ring_of places) (front_last_is ∙ er) ∙ k.rings.ring_self l)
+      pub front_not_last : p ≢ previous_of places n
+      front_not_last = not_in_ring l i p (previous_of places n) none ep (ap (ring_of places) (front_last_is ∙ er) ∙ k.rings.ring_self l)
 
-    pub front_puts : (new : List Place) (p : ℕ) → Puts places new p x.next r → Puts places new p (next_of places r) r
-    front_puts new p puts = subst (λ (q : ℕ). Puts places new p q r) first_links puts
+    pub front_puts : (new : Places) (p : ℕ) → Puts places new p n r → Puts places new p (next_of places r) r
+    front_puts new p puts = subst (λ (q : ℕ). Puts places new p q r) e puts
 
-  module _ (new : List Place) where
-    kept : (list : ℕ → List ℕ) → AreRings (next_of new) (previous_of new) (ring_of new) lists items list → length new ≡ length places → IsLinked new lists items
-    kept list rings len = record {
+  module _ (new : Places) where
+    kept : (list : ℕ → List ℕ) → AreRings (next_of new) (previous_of new) (ring_of new) lists items list → SameSize places new → IsLinked new lists items
+    kept list rings size = record {
       rings = as_seen new lists items list rings;
-      for_lists = subst (λ (n : ℕ). 2 * lists ≤ n) (sym len) k.for_lists;
-      for_items = subst (λ (n : ℕ). 2 * items ≤ n) (sym len) k.for_items;
-      few = subst (λ (n : ℕ). n ≤ 2 ^ 32) (sym len) k.few;
+      for_lists = subst (λ (n : ℕ). lists ≤ n) (sym size.lists) k.for_lists;
+      for_items = subst (λ (n : ℕ). items ≤ n) (sym size.items) k.for_items;
+      few_lists = subst (λ (n : ℕ). n ≤ 2 ^ 31) (sym size.lists) k.few_lists;
+      few_items = subst (λ (n : ℕ). n ≤ 2 ^ 31) (sym size.items) k.few_items;
     }
 
     -- one list is another
@@ -191,7 +172,7 @@ module _ (places : List Place) (lists items : ℕ) (k : IsLinked places lists it
           (subst (λ (q : ℕ). Puts places new p (next_of places q) q) er puts))
 
       pub back_kept : Puts places new p r r → IsLinked new lists items
-      back_kept puts = kept (λ m. cond (nat_eq m l) (in_list l ++ i ∷ []) (in_list m)) (pushed_back puts) puts.len
+      back_kept puts = kept (λ m. cond (nat_eq m l) (in_list l ++ i ∷ []) (in_list m)) (pushed_back puts) puts.size
 
       pub back_seen : Puts places new p r r → linked new lists items ≡ record v { lists = with_last v.lists l i }
       back_seen puts =
@@ -199,7 +180,7 @@ module _ (places : List Place) (lists items : ℕ) (k : IsLinked places lists it
           ∙ ap (λ (xs : List ℕ). make (slice_set v.lists l (xs ++ i ∷ [])) v.items) (sym (list_is l))
 
       pub front_kept : Puts places new p (next_of places r) r → IsLinked new lists items
-      front_kept puts = kept (λ m. cond (nat_eq m l) (i ∷ in_list l) (in_list m)) (pushed_front puts) puts.len
+      front_kept puts = kept (λ m. cond (nat_eq m l) (i ∷ in_list l) (in_list m)) (pushed_front puts) puts.size
 
       pub front_seen : Puts places new p (next_of places r) r → linked new lists items ≡ record v { lists = with_first v.lists l i }
       front_seen puts =
@@ -213,7 +194,7 @@ module _ (places : List Place) (lists items : ℕ) (k : IsLinked places lists it
           taken_out places new lists items in_list k.rings at.0 i at.1 (subst (λ (q : ℕ). TakesOut places new q) ep takes)
 
       pub unlink_kept : IsLinked new lists items
-      unlink_kept = kept (λ m. others (in_list m) i) left takes.len
+      unlink_kept = kept (λ m. others (in_list m) i) left takes.size
 
       pub unlink_seen : linked new lists items ≡ record v { lists = without v.lists i }
       unlink_seen =
@@ -238,41 +219,41 @@ module _ (places : List Place) (lists items : ℕ) (k : IsLinked places lists it
     below : l < lists
     below = inside in_list lists k.rings.beyond l i at
 
-    pub after_bound : next_of places p < length places
+    pub after_bound : IsThere places (next_of places p)
     after_bound =
-        subst (λ (q : ℕ). next_of places q < length places) (sym ep)
+        subst (λ (q : ℕ). IsThere places (next_of places q)) (sym ep)
         (ring_bound_too l (next_of places (item_place i)) below
         (after_place (next_of places) (previous_of places) (ring_of places) lists items in_list k.rings l i at))
 
-    pub before_bound : previous_of places p < length places
+    pub before_bound : IsThere places (previous_of places p)
     before_bound =
-        subst (λ (q : ℕ). previous_of places q < length places) (sym ep)
+        subst (λ (q : ℕ). IsThere places (previous_of places q)) (sym ep)
         (ring_bound l (previous_of places (item_place i)) below
         (before_place (next_of places) (previous_of places) (ring_of places) lists items in_list k.rings l i at))
 
-  pub first_seen : (l r : ℕ) (x : Place) (o : Option ℕ) → r ≡ list_place l → r < length places → x ≡ slice_index_or places r x
-      → (x.next ≡ r → o ≡ None) → (x.next ≢ r → o ≡ Some (x.next / 2)) → o ≡ slice_get (list_at v.lists l) 0
-  first_seen l r x o er bound e none some_item =
-      let leads : x.next ≡ next_of places (list_place l) = ap (λ (y : Place). y.next) (read r x bound e) ∙ ap (next_of places) er in
+  pub first_seen : (l r n : ℕ) (o : Option ℕ) → r ≡ list_place l → n ≡ next_of places r
+      → (n ≡ r → o ≡ None) → (n ≢ r → o ≡ Some (n / 2)) → o ≡ slice_get (list_at v.lists l) 0
+  first_seen l r n o er e none some_item =
+      let leads : n ≡ next_of places (list_place l) = e ∙ ap (next_of places) er in
       elim (first_item (next_of places) (previous_of places) (list_place l) (list_place l) (in_list l) (k.rings.segment l)) [
         | inl ended ↦ none (leads ∙ ended.0 ∙ sym er) ∙ sym (ap (λ (xs : List ℕ). slice_get xs 0) (list_is l) ∙ ended.1)
         | inr more ↦
             some_item (λ same. item_no_list more.0 l (sym (leads ∙ more.1) ∙ same ∙ er))
-            ∙ ap (λ (n : ℕ). Some (n / 2)) (leads ∙ more.1) ∙ ap (λ (n : ℕ). Some n) (half_item more.0)
+            ∙ ap (λ (m : ℕ). Some (m / 2)) (leads ∙ more.1) ∙ ap (λ (m : ℕ). Some m) (half_item more.0)
             ∙ sym (ap (λ (xs : List ℕ). slice_get xs 0) (list_is l) ∙ more.2)
       ]
 
   pub first_beyond : (l : ℕ) → lists ≤ l → None ≡ slice_get (list_at v.lists l) 0
   first_beyond l le = sym (ap (λ (xs : List ℕ). slice_get xs 0) (list_is l ∙ k.rings.beyond l le))
 
-  pub next_seen : (i p : ℕ) (x : Place) (o : Option ℕ) → p ≡ item_place i → p < length places → x ≡ slice_index_or places p x
+  pub next_seen : (i : ℕ) (x : Place) (o : Option ℕ) → i < length places.items.items → x ≡ slice_index_or places.items.items i x
       → (x.next ≡ x.ring → o ≡ None) → (x.next ≢ x.ring → o ≡ Some (x.next / 2))
       → (l n : ℕ) → slice_get (list_at v.lists l) n ≡ Some i → o ≡ slice_get (list_at v.lists l) (n + 1)
-  next_seen i p x o ep bound e none some_item l n at =
+  next_seen i x o bound e none some_item l n at =
       let there_at : slice_get (in_list l) n ≡ Some i = ap (λ (xs : List ℕ). slice_get xs n) (sym (list_is l)) ∙ at in
-      let leads : x.next ≡ next_of places (item_place i) = ap (λ (y : Place). y.next) (read p x bound e) ∙ ap (next_of places) ep in
+      let leads : x.next ≡ next_of places (item_place i) = ap (λ (y : Place). y.next) (read_item places i x bound e) in
       let its_ring : x.ring ≡ list_place l =
-      ap (λ (y : Place). y.ring) (read p x bound e) ∙ ap (ring_of places) ep ∙ k.rings.owner l i (has_at (in_list l) n i there_at) in
+      ap (λ (y : Place). y.ring) (read_item places i x bound e) ∙ k.rings.owner l i (has_at (in_list l) n i there_at) in
       let after : slice_get (list_at v.lists l) (n + 1) ≡ slice_get (in_list l) (suc n) =
       ap (λ (xs : List ℕ). slice_get xs (n + 1)) (list_is l) ∙ ap (slice_get (in_list l)) (add-one n) in
       elim (next_item (next_of places) (previous_of places) (list_place l) (list_place l) (in_list l) n i (k.rings.segment l) there_at) [
@@ -298,10 +279,10 @@ module _ (places : List Place) (lists items : ℕ) (k : IsLinked places lists it
     | inr n ↦ n
   ])
 
-  pub list_of_seen : (i p : ℕ) (x : Place) (o : Option ℕ) → p ≡ item_place i → p < length places → x ≡ slice_index_or places p x
+  pub list_of_seen : (i p : ℕ) (x : Place) (o : Option ℕ) → p ≡ item_place i → i < length places.items.items → x ≡ slice_index_or places.items.items i x
       → (x.ring ≡ p → o ≡ None) → (x.ring ≢ p → o ≡ Some (x.ring / 2)) → o ≡ list_of v.lists i
   list_of_seen i p x o ep bound e none some_list =
-      let its_ring : x.ring ≡ ring_of places (item_place i) = ap (λ (y : Place). y.ring) (read p x bound e) ∙ ap (ring_of places) ep in
+      let its_ring : x.ring ≡ ring_of places (item_place i) = ap (λ (y : Place). y.ring) (read_item places i x bound e) in
       elim (k.rings.somewhere i) [
         | inl alone ↦
             none (its_ring ∙ alone ∙ sym ep)
@@ -316,7 +297,7 @@ module _ (places : List Place) (lists items : ℕ) (k : IsLinked places lists it
             ∙ sym (in_that_list i of_list.0 (k.rings.owned of_list.0 i of_list.1))
       ]
 
-  module _ (new : List Place) (lists' items' : ℕ) (more_lists : lists ≤ lists') (more_items : items ≤ items')
+  module _ (new : Places) (lists' items' : ℕ) (more_lists : lists ≤ lists') (more_items : items ≤ items')
       (same : (p : ℕ) → place_at new p ≡ place_at places p) where
     grown_rings : AreRings (next_of new) (previous_of new) (ring_of new) lists' items' in_list
     grown_rings =
@@ -324,12 +305,14 @@ module _ (places : List Place) (lists items : ℕ) (k : IsLinked places lists it
         (λ p. ap (λ (x : Place). x.next) (same p)) (λ p. ap (λ (x : Place). x.previous) (same p))
         (λ p. ap (λ (x : Place). x.ring) (same p)) more_lists more_items
 
-    pub reserve_kept : 2 * lists' ≤ length new → 2 * items' ≤ length new → length new ≤ 2 ^ 32 → IsLinked new lists' items'
-    reserve_kept for_lists for_items few = record {
+    pub reserve_kept : lists' ≤ length new.lists.items → items' ≤ length new.items.items → length new.lists.items ≤ 2 ^ 31 → length new.items.items ≤ 2 ^ 31
+        → IsLinked new lists' items'
+    reserve_kept for_lists for_items few_lists few_items = record {
       rings = as_seen new lists' items' in_list grown_rings;
       for_lists = for_lists;
       for_items = for_items;
-      few = few;
+      few_lists = few_lists;
+      few_items = few_items;
     }
 
     pub reserve_seen : (many : ℕ) → lists' ≡ max lists many → (linked new lists' items').lists ≡ with_empty v.lists many
@@ -339,8 +322,8 @@ module _ (places : List Place) (lists items : ℕ) (k : IsLinked places lists it
         ∙ ap (λ (w : Linked). with_empty w.lists many) is
 
 -- an item that leaves its list and is put at the end of another
-module _ (places : List Place) (lists items : ℕ) (k : IsLinked places lists items) (v : Linked) (is : linked places lists items ≡ v)
-    (mid : List Place) (i p l r : ℕ) (s : IsSome (list_of v.lists i)) (ep : p ≡ item_place i) (takes : TakesOut places mid p)
+module _ (places : Places) (lists items : ℕ) (k : IsLinked places lists items) (v : Linked) (is : linked places lists items ≡ v)
+    (mid : Places) (i p l r : ℕ) (s : IsSome (list_of v.lists i)) (ep : p ≡ item_place i) (takes : TakesOut places mid p)
     (in_lists : l < length v.lists) (er : r ≡ list_place l) where
   abbrev then_seen : Linked
   then_seen = record v { lists = without v.lists i }
@@ -360,7 +343,7 @@ module _ (places : List Place) (lists items : ℕ) (k : IsLinked places lists it
   list_usable : l < length (without v.lists i)
   list_usable = subst (λ (n : ℕ). l < n) (sym (length-map v.lists (λ xs. others xs i))) in_lists
 
-  pub mid_last_bound : previous_of mid r < length mid
+  pub mid_last_bound : IsThere mid (previous_of mid r)
   mid_last_bound = last_bound mid lists items then_kept then_seen then_is l r (list_below places lists items k v is l in_lists) er
 
   pub mid_not_last : p ≢ previous_of mid r
@@ -368,14 +351,14 @@ module _ (places : List Place) (lists items : ℕ) (k : IsLinked places lists it
       not_in_ring mid lists items then_kept then_seen then_is l i p (previous_of mid r) then_alone ep
       (ring_of_last mid lists items then_kept then_seen then_is l r er)
 
-  pub moved_kept : (new : List Place) → Puts mid new p r r → IsLinked new lists items
+  pub moved_kept : (new : Places) → Puts mid new p r r → IsLinked new lists items
   moved_kept new puts = back_kept mid lists items then_kept then_seen then_is new l i p r list_usable item_usable then_alone ep er puts
 
-  pub moved_seen : (new : List Place) → Puts mid new p r r → linked new lists items ≡ record v { lists = with_last (without v.lists i) l i }
+  pub moved_seen : (new : Places) → Puts mid new p r r → linked new lists items ≡ record v { lists = with_last (without v.lists i) l i }
   moved_seen new puts = back_seen mid lists items then_kept then_seen then_is new l i p r list_usable item_usable then_alone ep er puts
 
 -- with no more lists and items, all is as it was
-pub unchanged : (places : List Place) (lists items : ℕ) (k : IsLinked places lists items) (v : Linked) (is : linked places lists items ≡ v) (new : List Place)
+pub unchanged : (places : Places) (lists items : ℕ) (k : IsLinked places lists items) (v : Linked) (is : linked places lists items ≡ v) (new : Places)
     → ((p : ℕ) → place_at new p ≡ place_at places p) → linked new lists items ≡ v
 unchanged places lists items k v is new same =
     same_linked (map (items_in new items) (range_with_len 0 lists)) v.lists items v.items

@@ -1,7 +1,7 @@
 -- The places stay rings as an item is put in or taken out, and as places are added.
 use Rattle.std.proofs.Common.{◌≡◌, ◌≢◌, ℕ, ◌<◌, ◌≤◌, List, [], ◌∷◌, ◌++◌, map, ◌⊎◌, inl, inr, Bool, true, false, cond, nat_eq, sym, ap, ◌∙◌, subst, arith, append_assoc}
 use Rattle.std.proofs.lemmas.List.{map-append}
-use Rattle.fr_links.specs.declared.place.Place.{Place}
+use Rattle.fr_links.specs.declared.place.Places.{Places}
 use Rattle.fr_links.specs.Lists.{has_item, others}
 use Rattle.fr_links.specs.Rings.{AllDifferent, AreRings, IsSegment, Puts, TakesOut, item_place, list_place, next_of, previous_of, ring_of}
 use Rattle.fr_links.proofs.Has.{by_number, by_truth, cons_absent, differ, different_places, different_push, eq_is, eq_self, has_append_cases, has_append_left, has_append_right, has_place, here, item_no_list, no_list_place, or_case, same_item, same_list, there, true_false}
@@ -82,7 +82,7 @@ module _ (next previous ring : ℕ → ℕ) (lists items : ℕ) (list : ℕ → 
         (there (item_place i) (next (item_place i)) (map item_place parts.1 ++ list_place l ∷ [])
         (after_in next previous (list_place l) (map item_place parts.0) (item_place i) (map item_place parts.1) (list_place l) around))))
 
-module _ (old new : List Place) (lists items : ℕ) (list : ℕ → List ℕ) (k : AreRings (next_of old) (previous_of old) (ring_of old) lists items list) where
+module _ (old new : Places) (lists items : ℕ) (list : ℕ → List ℕ) (k : AreRings (next_of old) (previous_of old) (ring_of old) lists items list) where
   -- an item that stood in no list was put into one
   pub put : (l i before : ℕ) (xs : List ℕ) → l < lists → i < items → ((m : ℕ) → has_item (list m) i ≡ false)
       → ring_of old before ≡ list_place l → ring_of old (previous_of old before) ≡ list_place l → Puts old new (item_place i) before (list_place l)

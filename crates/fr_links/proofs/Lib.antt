@@ -4,6 +4,7 @@ pub mod Has
 pub mod Kept
 pub mod Opened
 pub mod Others
+pub mod Places
 pub mod Seen
 pub mod Segments
 pub mod Views

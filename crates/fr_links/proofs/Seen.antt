@@ -1,7 +1,7 @@
 -- What following the places of a ring shows.
 use Rattle.std.proofs.Common.{◌≡◌, ℕ, zero, suc, ◌/◌, ◌≤◌, List, [], ◌∷◌, length, map, ◌⊎◌, inl, inr, Some, None, true, slice_get, refl, sym, ap, ◌∙◌, subst}
 use Rattle.std.proofs.lemmas.List.{length-map}
-use Rattle.fr_links.specs.declared.place.Place.{Place}
+use Rattle.fr_links.specs.declared.place.Places.{Places}
 use Rattle.fr_links.specs.Lists.{has_item}
 use Rattle.fr_links.specs.Rings.{AreRings, IsSegment, item_place, items_in, list_place, next_of, previous_of, ring_of}
 use Rattle.fr_links.proofs.Has.{halves, here, no_list_place, there}
@@ -9,7 +9,7 @@ use Rattle.fr_links.proofs.Kept.{retold}
 use Rattle.fr_links.proofs.Others.{few_different}
 use Rattle.fr_links.proofs.Segments.{seen}
 
-module _ (places : List Place) (lists items : ℕ) (list : ℕ → List ℕ)
+module _ (places : Places) (lists items : ℕ) (list : ℕ → List ℕ)
     (k : AreRings (next_of places) (previous_of places) (ring_of places) lists items list) where
   pub items_seen : (l : ℕ) → items_in places items l ≡ list l
   items_seen l =

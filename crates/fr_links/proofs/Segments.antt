@@ -1,6 +1,6 @@
 -- How a ring goes on as a place is put in or taken out.
 use Rattle.std.proofs.Common.{◌≡◌, ◌≢◌, ℕ, zero, suc, ◌≤◌, List, [], ◌∷◌, ◌++◌, length, Bool, true, false, cond, nat_eq, refl, sym, ap, ◌∙◌, subst, arith}
-use Rattle.fr_links.specs.declared.place.Place.{Place}
+use Rattle.fr_links.specs.declared.place.Places.{Places}
 use Rattle.fr_links.specs.Lists.{has_item}
 use Rattle.fr_links.specs.Rings.{AllDifferent, IsSegment, Puts, TakesOut, next_of, places_from, previous_of}
 use Rattle.fr_links.proofs.Has.{differ, eq_self, has_append_left, here, not_first, not_tail, or_none, there, true_false}
@@ -54,7 +54,7 @@ module _ (next previous : ℕ → ℕ) where
       ∙ ap (λ (c : Bool). cond c [] (x ∷ places_from k next b (next x))) n.0
       ∙ ap (λ (l : List ℕ). x ∷ l) (seen k x ps b (omega arith) n.1 s.2)
 
-module _ (old new : List Place) where
+module _ (old new : Places) where
   pub segment_put_last : (a : ℕ) (ps : List ℕ) (b x r : ℕ) → Puts old new x b r → AllDifferent (a ∷ ps) → has_item ps b ≡ false → has_item (a ∷ ps) x ≡ false
       → IsSegment (next_of old) (previous_of old) a ps b → IsSegment (next_of new) (previous_of new) a (ps ++ x ∷ []) b
   segment_put_last a [] b x r p o nb nx s = (ap (next_of new) (sym s.1) ∙ p.next_last, p.previous_new ∙ s.1, (p.next_new, p.previous_before))

@@ -1,9 +1,7 @@
 ghost use Rattle.std.specs.Prelude.{◌≡◌, ℕ, ◌+◌, ◌<◌, [], Some, None, IsSome, IsTrue, OnOk, OnErr, length, max, slice_get};
 ghost use Rattle.fr_links.specs.Lists.{Linked, has_item, list_at, list_of, with_empty, with_first, with_last, without};
 
-use crate::place::{
-    MOST, Place, add_places, item_place, list_place, number_unless, put_before, take_out,
-};
+use crate::place::{MOST, Places, item_place, list_place, number_unless};
 use std::alloc::{AllocError, Global};
 use std::marker::Model;
 
@@ -13,8 +11,7 @@ use std::marker::Model;
 /// Contracts see the items of each list by the list's number, and below which number items are usable.
 #[derive(Drop)]
 pub struct Links {
-    /// List `l` has the place 2l + 1 and item `i` the place 2i.
-    places: Vec<Place>,
+    places: Places,
     lists: usize,
     items: usize,
 }
@@ -26,9 +23,9 @@ impl Model for Links {
 
     ghost use Rattle.fr_links.specs.Rings.{IsLinked, linked};
 
-    ghost view = { λ links. linked links.places.items links.lists links.items };
+    ghost view = { λ links. linked links.places links.lists links.items };
 
-    ghost invariant = { λ links. IsLinked links.places.items links.lists links.items };
+    ghost invariant = { λ links. IsLinked links.places links.lists links.items };
 }
 
 impl Links {
@@ -37,7 +34,7 @@ impl Links {
         ensures { result ≡ record { lists = []; items = 0 } }
     {
         Links {
-            places: Vec::new(alloc),
+            places: Places::new(alloc),
             lists: 0,
             items: 0,
         }
@@ -52,11 +49,10 @@ impl Links {
     {
         let lists = self.lists.max(lists);
         let items = self.items.max(items);
-        let most = lists.max(items);
-        if most > MOST {
+        if lists > MOST || items > MOST {
             return Err(AllocError);
         }
-        add_places(&mut self.places, 2 * most)?;
+        self.places.grow(lists, items)?;
         self.lists = lists;
         self.items = items;
         Ok(())
@@ -71,7 +67,7 @@ impl Links {
     {
         let places = &mut self.places;
         let ring = list_place(list);
-        put_before(places, item_place(item), ring, ring);
+        places.put_before(item_place(item), ring, ring);
     }
 
     /// Puts an item that stands in no list at the front of a list.
@@ -83,8 +79,8 @@ impl Links {
     {
         let places = &mut self.places;
         let ring = list_place(list);
-        let first = places[ring as usize].next;
-        put_before(places, item_place(item), first, ring);
+        let first = places.next(ring);
+        places.put_before(item_place(item), first, ring);
     }
 
     /// Takes an item out of the list in which it stands.
@@ -92,7 +88,8 @@ impl Links {
         requires { IsSome (list_of self.old.lists item) }
         ensures { self.new ≡ record self.old { lists = without self.old.lists item } }
     {
-        take_out(&mut self.places, item_place(item));
+        let places = &mut self.places;
+        places.take_out(item_place(item));
     }
 
     /// Makes an item that stands in a list the last of this list, which may be its own.
@@ -104,8 +101,8 @@ impl Links {
         let places = &mut self.places;
         let place = item_place(item);
         let ring = list_place(list);
-        take_out(places, place);
-        put_before(places, place, ring, ring);
+        places.take_out(place);
+        places.put_before(place, ring, ring);
     }
 
     /// The first item of a list, or None exactly where the list is empty or there is none with this number.
@@ -116,7 +113,7 @@ impl Links {
             return None;
         }
         let ring = list_place(list);
-        number_unless(self.places[ring as usize].next, ring)
+        number_unless(self.places.next(ring), ring)
     }
 
     /// The item after one that stands in a list, or None exactly where that is the last of its list.
@@ -124,7 +121,7 @@ impl Links {
         requires { IsSome (list_of self.now.lists item) }
         ensures { (list place : ℕ) → slice_get (list_at self.now.lists list) place ≡ Some item → result ≡ slice_get (list_at self.now.lists list) (place + 1) }
     {
-        let place = self.places[item_place(item) as usize];
+        let place = self.places.items[item];
         number_unless(place.next, place.ring)
     }
 
@@ -137,7 +134,6 @@ impl Links {
             return None;
         }
         let place = item_place(item);
-        let ring = self.places[place as usize].ring;
-        number_unless(ring, place)
+        number_unless(self.places.items[item].ring, place)
     }
 }

@@ -1,5 +1,5 @@
 use Rattle.fr_links.proofs.Calls.{unlink_kept, unlink_seen}
-use Rattle.fr_links.proofs.Opened.{fits_standing, has_place_after, has_place_before, has_standing_place}
+use Rattle.fr_links.proofs.Opened.{even, fits_standing, has_place_after, has_place_before, has_standing_place}
 use Rattle.fr_links.proofs.links.Links.unlink.Goals as goal
 
 pub item_place-requires : goal.item_place-requires
@@ -8,6 +8,9 @@ item_place-requires c = fits_standing c.self.inside c.self.invariant c.args.self
 pub take_out-requires-clause-place : goal.take_out-requires-clause-place
 take_out-requires-clause-place c =
     has_standing_place c.self.inside c.self.invariant c.args.self.now c.self.view_is c.args.item c.item_place.result c.requires c.item_place.ensures
+
+pub take_out-requires-clause-item : goal.take_out-requires-clause-item
+take_out-requires-clause-item c = even c.args.item c.item_place.result c.item_place.ensures
 
 pub take_out-requires-clause-next : goal.take_out-requires-clause-next
 take_out-requires-clause-next c =
@@ -19,10 +22,10 @@ take_out-requires-clause-previous c =
 
 pub invariant_of-self : goal.invariant_of-self
 invariant_of-self c =
-    unlink_kept c.self.inside.places.items c.self.inside.lists c.self.inside.items c.self.invariant c.args.self.now c.self.view_is
-    c.take_out.new.places.items c.args.item c.item_place.result c.requires c.item_place.ensures c.take_out.ensures
+    unlink_kept c.self.inside.places c.self.inside.lists c.self.inside.items c.self.invariant c.args.self.now c.self.view_is
+    c.take_out.new.self c.args.item c.item_place.result c.requires c.item_place.ensures c.take_out.ensures
 
 pub returns : goal.returns
 returns c =
-    unlink_seen c.self.inside.places.items c.self.inside.lists c.self.inside.items c.self.invariant c.args.self.now c.self.view_is
-    c.take_out.new.places.items c.args.item c.item_place.result c.requires c.item_place.ensures c.take_out.ensures
+    unlink_seen c.self.inside.places c.self.inside.lists c.self.inside.items c.self.invariant c.args.self.now c.self.view_is
+    c.take_out.new.self c.args.item c.item_place.result c.requires c.item_place.ensures c.take_out.ensures
