@@ -10,7 +10,7 @@ use Rattle.fr_store.specs.declared.edges.Run.{Run}
 use Rattle.fr_store.specs.declared.node.Node.{Node}
 use Rattle.fr_store.specs.declared.table.Table.{Table}
 use Rattle.fr_store.specs.Nodes.{AreDependents, Edge, IsEdge, StandsAt, dependents_at, edge_number, has_edge, has_reader, is_number, named, node_at, node_in, reads, signal_at}
-use Rattle.fr_store.specs.Kept.{IsStore, edge_of, first_at, inputs_at, inputs_in, nodes_of, owner_at, room_at, stored_in}
+use Rattle.fr_store.specs.Kept.{IsStore, edge_of, edge_count, first_at, inputs_at, inputs_in, nodes_of, owner_at, room_at, stored_in}
 use Rattle.fr_store.proofs.Lists.{by_bound, same_tests}
 
 and_both : (a b : Bool) → (a && b) ≡ true → (a ≡ true) × (b ≡ true)
@@ -208,7 +208,7 @@ seen_number limit t e i place =
     ∙ ap (λ (es : List Edge). edge_number es place) (sym (dependents_are limit t e i))
 
 -- an edge that stands among dependents is one of those that there are
-pub edge_within : (limit : ℕ) (t : Table) (e : Edges) (edge : ℕ) → IsStore limit t e → IsEdge (stored_in limit t e) edge → edge < length e.owners.items
+pub edge_within : (limit : ℕ) (t : Table) (e : Edges) (edge : ℕ) → IsStore limit t e → IsEdge (stored_in limit t e) edge → edge < edge_count e
 edge_within limit t e edge s d =
     let at = edge_item limit t e edge d.0 d.1 d.2 d.3 in
     let p = s.kept_edges.inside d.0 edge (item_there (list_at e.links.lists d.0) d.1 edge at.0) in

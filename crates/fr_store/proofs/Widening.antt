@@ -1,5 +1,5 @@
 -- Edges through their changes.
-use Rattle.std.proofs.Common.{◌≡◌, ◌≢◌, ℕ, zero, suc, ◌+◌, ◌-◌, ◌<◌, ◌≤◌, List, [], ◌∷◌, ◌++◌, length, replicate, max, ◌⊎◌, inl, inr, Option, Bool, true, false, refl, sym, ap, ◌∙◌, subst, arith, get_or-set_same, get_or-set_other, length-append, length-set, slice_set}
+use Rattle.std.proofs.Common.{◌≡◌, ◌≢◌, ℕ, zero, suc, ◌+◌, ◌-◌, ◌*◌, ◌<◌, ◌≤◌, List, [], ◌∷◌, ◌++◌, length, replicate, max, ◌⊎◌, inl, inr, Option, Bool, true, false, refl, sym, ap, ◌∙◌, subst, arith, get_or-set_same, get_or-set_other, length-append, length-set, slice_set}
 use Rattle.std.proofs.lemmas.List.{get_or-append_right, get_or-replicate, get_or_append_left, get_or_past, length-replicate}
 use Rattle.fr_links.specs.Lists.{has_item, list_at, with_empty}
 use Rattle.fr_links.proofs.Has.{true_false}
@@ -7,7 +7,7 @@ use Rattle.fr_value.specs.declared.now.Held.{Held}
 use Rattle.fr_store.specs.declared.edges.Edges.{Edges}
 use Rattle.fr_store.specs.declared.edges.Run.{Run}
 use Rattle.fr_store.specs.Nodes.{is_number, signal_at}
-use Rattle.fr_store.specs.Kept.{AreEdges, AreListed, IsPlace, Widened, Wires, first_at, owner_at, room_at, run_at}
+use Rattle.fr_store.specs.Kept.{AreEdges, AreListed, IsPlace, Widened, Wires, edge_count, first_at, owner_at, room_at, run_at}
 use Rattle.fr_store.proofs.Lists.{by_bound, by_number}
 
 -- new lists at the end are empty
@@ -28,20 +28,20 @@ grown_long lists many = length-append lists (replicate (many - length lists) [])
 
 -- a number got edges behind all that there were
 pub record Grows (old new : Edges) (number room : ℕ) : Type 0 where
-  pub run : run_at new.runs.items number ≡ record { first = length old.owners.items; room = room }
+  pub run : run_at new.runs.items number ≡ record { first = edge_count old; room = room }
   pub other : (i : ℕ) → i ≢ number → run_at new.runs.items i ≡ run_at old.runs.items i
   pub len : ((number < length old.runs.items) × (length new.runs.items ≡ length old.runs.items)) ⊎ ((number ≡ length old.runs.items) × (length new.runs.items ≡ length old.runs.items + 1))
-  pub owners_len : length new.owners.items ≡ length old.owners.items + room
-  pub owners_old : (edge : ℕ) → edge < length old.owners.items → owner_at new.owners.items edge ≡ owner_at old.owners.items edge
-  pub owners_new : (edge : ℕ) → length old.owners.items ≤ edge → edge < length old.owners.items + room → owner_at new.owners.items edge ≡ number
+  pub owners_len : edge_count new ≡ edge_count old + room
+  pub owners_old : (edge : ℕ) → edge < edge_count old → owner_at new.owners.items edge ≡ owner_at old.owners.items edge
+  pub owners_new : (edge : ℕ) → edge_count old ≤ edge → edge < edge_count old + room → owner_at new.owners.items edge ≡ number
   pub lists : new.links.lists ≡ with_empty old.links.lists (number + 1)
-  pub items : new.links.items ≡ max old.links.items (length old.owners.items + room)
+  pub items : new.links.items ≡ max old.links.items (edge_count old + room)
   pub four : 4 ≤ room
-  pub most : length old.owners.items + room ≤ 2147483648
+  pub most : edge_count old + room ≤ 2147483648
 
 module _ (old new : Edges) (number room : ℕ) (e : AreEdges old) (g : Grows old new number room)
     (idle : (l p : ℕ) → p < room_at old.runs.items number → has_item (list_at old.links.lists l) (first_at old.runs.items number + p) ≡ false) where
-  first_here : first_at new.runs.items number ≡ length old.owners.items
+  first_here : first_at new.runs.items number ≡ edge_count old
   first_here = ap (λ (r : Run). r.first) g.run
 
   room_here : room_at new.runs.items number ≡ room
@@ -102,7 +102,7 @@ module _ (old new : Edges) (number room : ℕ) (e : AreEdges old) (g : Grows old
   pub grown_edges : AreEdges new
   grown_edges = record {
     runs = λ i lt. elim (by_number i number) [
-      | inl same ↦ subst (λ (x : ℕ). (4 ≤ room_at new.runs.items x) × (first_at new.runs.items x + room_at new.runs.items x ≤ length new.owners.items)) (sym same)
+      | inl same ↦ subst (λ (x : ℕ). (4 ≤ room_at new.runs.items x) × (first_at new.runs.items x + room_at new.runs.items x ≤ edge_count new)) (sym same)
           (let a = first_here in
           let b = room_here in
           let d = g.four in
@@ -124,7 +124,7 @@ module _ (old new : Edges) (number room : ℕ) (e : AreEdges old) (g : Grows old
           let in_room : place < room = omega (arith, subst (λ (x : ℕ). place < room_at new.runs.items x) same small) in
           ap (λ (x : ℕ). owner_at new.owners.items (first_at new.runs.items x + place)) same
           ∙ ap (λ (x : ℕ). owner_at new.owners.items (x + place)) a
-          ∙ g.owners_new (length old.owners.items + place) (omega arith) (omega arith) ∙ sym same
+          ∙ g.owners_new (edge_count old + place) (omega arith) (omega arith) ∙ sym same
       | inr ne ↦
           let was = was_there i ne lt in
           let r = e.runs i was in
@@ -159,11 +159,11 @@ module _ (old new : Edges) (number room : ℕ) (e : AreEdges old) (g : Grows old
       ]
 
   -- the new edges are in no list
-  new_idle : (l place : ℕ) → place < room → has_item (list_at new.links.lists l) (length old.owners.items + place) ≡ false
-  new_idle l place lt = no_item (has_item (list_at new.links.lists l) (length old.owners.items + place)) (λ h.
-      let was : has_item (list_at old.links.lists l) (length old.owners.items + place) ≡ true =
-      subst (λ (xs : List ℕ). has_item xs (length old.owners.items + place) ≡ true) (list_same l) h in
-      let p = e.inside l (length old.owners.items + place) was in
+  new_idle : (l place : ℕ) → place < room → has_item (list_at new.links.lists l) (edge_count old + place) ≡ false
+  new_idle l place lt = no_item (has_item (list_at new.links.lists l) (edge_count old + place)) (λ h.
+      let was : has_item (list_at old.links.lists l) (edge_count old + place) ≡ true =
+      subst (λ (xs : List ℕ). has_item xs (edge_count old + place) ≡ true) (list_same l) h in
+      let p = e.inside l (edge_count old + place) was in
       let r = (e.runs p.number p.there).1 in
       let a = p.same in
       let b = p.within in
@@ -192,16 +192,16 @@ wired_edges old new number names e runs owners lists items there w = record {
   runs = λ i lt.
       let r = e.runs i (subst (λ (rs : List Run). i < length rs) runs lt) in (
         subst (λ (rs : List Run). 4 ≤ room_at rs i) (sym runs) r.0,
-        subst (λ (rs : List Run). first_at rs i + room_at rs i ≤ length new.owners.items) (sym runs)
-            (subst (λ (os : List ℕ). first_at old.runs.items i + room_at old.runs.items i ≤ length os) (sym owners) r.1),
+        subst (λ (rs : List Run). first_at rs i + room_at rs i ≤ edge_count new) (sym runs)
+            (subst (λ (os : List ℕ). first_at old.runs.items i + room_at old.runs.items i ≤ 4 * length os) (sym owners) r.1),
       );
   owned = λ i place lt small.
       ap (λ (rs : List Run). owner_at new.owners.items (first_at rs i + place)) runs ∙ ap (λ (os : List ℕ). owner_at os (first_at old.runs.items i + place)) owners
       ∙ e.owned i place (subst (λ (rs : List Run). i < length rs) runs lt) (subst (λ (rs : List Run). place < room_at rs i) runs small);
   inside = λ l edge h. subst (λ (rs : List Run). IsPlace rs edge) (sym runs) (place_of l edge h);
   lists = let a : length new.runs.items ≡ length old.runs.items = ap length runs in let b = e.lists in omega arith;
-  items = let a : length new.owners.items ≡ length old.owners.items = ap length owners in let b = e.items in omega arith;
-  small = let a : length new.owners.items ≡ length old.owners.items = ap length owners in let b = e.small in omega arith;
+  items = let a : edge_count new ≡ edge_count old = ap (λ (os : List ℕ). 4 * length os) owners in let b = e.items in omega arith;
+  small = let a : edge_count new ≡ edge_count old = ap (λ (os : List ℕ). 4 * length os) owners in let b = e.small in omega arith;
 }
   where
     was : (l edge : ℕ) → (edge < first_at old.runs.items number) ⊎ (first_at old.runs.items number + room_at old.runs.items number ≤ edge)
@@ -286,7 +286,7 @@ listed_anew old new number before after e a runs there wide others w = record {
 pub grows : (old new : Edges) (number room first many : ℕ)
     → ((number < length old.runs.items) × (new.runs.items ≡ slice_set old.runs.items number (record { first = first; room = room })))
     ⊎ ((number ≡ length old.runs.items) × (new.runs.items ≡ old.runs.items ++ (record { first = first; room = room }) ∷ []))
-    → first ≡ length old.owners.items → many ≡ length old.owners.items → length new.owners.items ≡ first + room
+    → first ≡ edge_count old → many ≡ edge_count old → edge_count new ≡ first + room
     → ((k : ℕ) → k < first + room → k < many → owner_at new.owners.items k ≡ owner_at old.owners.items k)
     → ((k : ℕ) → many ≤ k → k < first + room → owner_at new.owners.items k ≡ number)
     → new.links.lists ≡ with_empty old.links.lists (number + 1) → new.links.items ≡ max old.links.items (first + room) → 4 ≤ room

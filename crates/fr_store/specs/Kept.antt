@@ -1,5 +1,5 @@
 -- How a store keeps its nodes and edges.
-use Rattle.std.specs.Prelude.{◌≡◌, ◌≢◌, ℕ, ◌+◌, ◌-◌, ◌^◌, ◌<◌, ◌≤◌, ◌⊎◌, List, [], length, map, slice_index_or, Option, Some, None, IsSome, true, false, is_some, count_by, vec_capacity}
+use Rattle.std.specs.Prelude.{◌≡◌, ◌≢◌, ℕ, ◌+◌, ◌-◌, ◌*◌, ◌/◌, ◌^◌, ◌<◌, ◌≤◌, ◌⊎◌, List, [], length, map, slice_index_or, Option, Some, None, IsSome, true, false, is_some, count_by, vec_capacity}
 use Rattle.fr_links.specs.Lists.{has_item, list_at}
 use Rattle.fr_links.specs.Rings.{AllDifferent}
 use Rattle.fr_value.specs.declared.now.Held.{Held}
@@ -10,7 +10,7 @@ use Rattle.fr_store.specs.declared.edges.Edges.{Edges}
 use Rattle.fr_store.specs.declared.edges.Run.{Run}
 use Rattle.fr_store.specs.declared.node.Node.{Node}
 use Rattle.fr_store.specs.declared.table.Table.{Table}
-use Rattle.fr_store.specs.Nodes.{Edge, Stored, node_in, is_number, signal_at, computed, latched, tied, lifted, cleared}
+use Rattle.fr_store.specs.Nodes.{Edge, Stored, most_nodes, node_in, is_number, signal_at, computed, latched, tied, lifted, cleared}
 
 -- The node with what is written of it.
 abbrev pub changed : Change → Node → Node
@@ -44,7 +44,7 @@ next_number t = slice_index_or t.free.items (length t.free.items - 1) (length t.
 
 -- Each key is one number's and has a node, and the free numbers are listed once each.
 pub record IsTable (t : Table) : Type 0 where
-  pub few : length t.keys.items ≤ 4194304
+  pub few : length t.keys.items ≤ most_nodes
   pub keyed : (i key : ℕ) → key_at t.keys.items i ≡ Some key → IsSome (get t.nodes key)
   pub once : (i j key : ℕ) → key_at t.keys.items i ≡ Some key → key_at t.keys.items j ≡ Some key → i ≡ j
   pub counted : t.count ≡ count_by is_some (nodes_of t)
@@ -83,9 +83,13 @@ first_at runs i = (run_at runs i).first
 abbrev pub room_at : List Run → ℕ → ℕ
 room_at runs i = (run_at runs i).room
 
--- The number of an edge.
+-- The number of an edge; each four edges that lie side by side have one.
 abbrev pub owner_at : List ℕ → ℕ → ℕ
-owner_at owners edge = slice_index_or owners edge 0
+owner_at owners edge = slice_index_or owners (edge / 4) 0
+
+-- How many edges there are.
+abbrev pub edge_count : Edges → ℕ
+edge_count e = 4 * length e.owners.items
 
 -- An edge is one of a number's.
 pub record IsPlace (runs : List Run) (edge : ℕ) : Type 0 where
@@ -97,19 +101,19 @@ pub record IsPlace (runs : List Run) (edge : ℕ) : Type 0 where
 
 -- Each edge of a number knows it, and only such edges are in lists.
 pub record AreEdges (e : Edges) : Type 0 where
-  pub runs : (i : ℕ) → i < length e.runs.items → (4 ≤ room_at e.runs.items i) × (first_at e.runs.items i + room_at e.runs.items i ≤ length e.owners.items)
+  pub runs : (i : ℕ) → i < length e.runs.items → (4 ≤ room_at e.runs.items i) × (first_at e.runs.items i + room_at e.runs.items i ≤ edge_count e)
   pub owned : (i place : ℕ) → i < length e.runs.items → place < room_at e.runs.items i → owner_at e.owners.items (first_at e.runs.items i + place) ≡ i
   pub inside : (l edge : ℕ) → has_item (list_at e.links.lists l) edge ≡ true → IsPlace e.runs.items edge
   pub lists : length e.runs.items ≤ length e.links.lists
-  pub items : length e.owners.items ≤ e.links.items
-  pub small : length e.owners.items ≤ 2 ^ 31
+  pub items : edge_count e ≤ e.links.items
+  pub small : edge_count e ≤ 2 ^ 31
 
 -- The edges are the same.
 pub record SameEdges (old new : Edges) : Type 0 where
   pub runs : new.runs.items ≡ old.runs.items
   pub links : new.links ≡ old.links
-  pub owners : (edge : ℕ) → edge < length old.owners.items → owner_at new.owners.items edge ≡ owner_at old.owners.items edge
-  pub more : length old.owners.items ≤ length new.owners.items
+  pub owners : (edge : ℕ) → edge < edge_count old → owner_at new.owners.items edge ≡ owner_at old.owners.items edge
+  pub more : edge_count old ≤ edge_count new
 
 -- A number has edges for so many places, none of which is in a list, and all else is the same.
 pub record Widened (old new : Edges) (number places : ℕ) : Type 0 where
@@ -151,7 +155,7 @@ pub record AreListed (e : Edges) (inputs : ℕ → List Held) : Type 0 where
 
 -- No more numbers than the limit, edges for each, and these are listed by the nodes' inputs.
 pub record IsStore (limit : ℕ) (table : Table) (edges : Edges) : Type 0 where
-  pub small : limit ≤ 4194304
+  pub small : limit ≤ most_nodes
   pub few : length table.keys.items ≤ limit
   pub kept_table : IsTable table
   pub kept_edges : AreEdges edges

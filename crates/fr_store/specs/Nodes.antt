@@ -9,11 +9,19 @@ use Rattle.fr_value.specs.declared.now.Held.TheVariants.{Steady, Signal}
 use Rattle.fr_value.specs.declared.now.Now.{Now}
 use Rattle.fr_value.specs.declared.now.Now.TheVariants.{Plain}
 use Rattle.fr_value.specs.declared.value.Value.TheVariants as Value
-use Rattle.fr_store.specs.declared.node.Cell.{Cell}
+use Rattle.fr_store.specs.declared.cell.Cell.{Cell}
 use Rattle.fr_store.specs.declared.node.Node.{Node}
 use Rattle.fr_store.specs.declared.node.NodeKind.{NodeKind}
 use Rattle.fr_store.specs.declared.node.NodeKind.TheVariants.{IfWatch}
 use Rattle.fr_store.specs.contracts.node.Node as node
+
+-- The most nodes that a store is made for.
+abbrev pub most_nodes : ℕ
+most_nodes = 4194304
+
+-- The greatest height of a floor and of what a new node is computed of.
+abbrev pub most_height : ℕ
+most_height = 2 ^ 120
 
 -- A place among the inputs of a node, with the number by which the store knows it.
 pub record Edge : Type 0 where
@@ -97,9 +105,9 @@ least_height nodes floor (Signal id ∷ inputs) = least_height nodes (max floor 
 abbrev pub AreLive : Stored → List Held → Type 0
 AreLive s inputs = (i : ℕ) → reads i inputs ≡ true → IsSome (node_at s i)
 
--- No node that these inputs name stands above 2 to the 120th.
+-- No node that these inputs name stands above the greatest height.
 abbrev pub AreLow : Stored → List Held → Type 0
-AreLow s inputs = (i : ℕ) (n : Node) → reads i inputs ≡ true → node_at s i ≡ Some n → n.height ≤ 2 ^ 120
+AreLow s inputs = (i : ℕ) (n : Node) → reads i inputs ≡ true → node_at s i ≡ Some n → n.height ≤ most_height
 
 -- A node as it is made: not yet computed, of the value `#f`, without cell and source.
 abbrev pub new_node : NodeKind → List Held → EraId → ℕ → ℕ → ℕ → Node

@@ -3,11 +3,12 @@ ghost use Rattle.slab.specs.Slab.{ContainsKey, get, with_value};
 ghost use Rattle.fr_store.specs.Kept.{changed};
 ghost use Rattle.fr_store.specs.Nodes.{cleared};
 
+use crate::cell::{Cell, NodeCell};
 use crate::inputs::Inputs;
-use crate::node::{Cell, Node, NodeKind};
+use crate::node::{Node, NodeKind};
+use crate::source::Source;
 use fr_value::{Held, Now, Value};
 use slab::Slab;
-use sqlite_items::Items;
 use std::alloc::Global;
 
 /// What is written of a node.
@@ -33,11 +34,11 @@ impl Change {
         match self {
             Change::Computed(now, cell, instant) => {
                 node.value = now;
-                node.cell = cell;
+                node.cell = NodeCell::of(cell);
                 node.stamp = Some(instant);
             }
-            Change::Latched(cell) => node.cell = Some(cell),
-            Change::Tied(source) => node.source = Some(source),
+            Change::Latched(cell) => node.cell = NodeCell::some(cell),
+            Change::Tied(source) => node.source = Source::some(source),
             Change::Lifted(height) => node.height = height,
             Change::Inputs(inputs) => node.inputs = inputs,
             Change::Cleared(alloc) => clear(node, alloc),
@@ -49,9 +50,9 @@ fn clear(node: &mut Node, alloc: Global)
     ensures { node.new ≡ cleared node.old }
 {
     if let NodeKind::IfWatch(_, held) = &mut node.kind {
-        *held = Items::new(alloc);
+        held.clear(alloc);
     }
-    node.inputs = Inputs::none(alloc);
-    node.source = None;
+    node.inputs = Inputs::none();
+    node.source = Source::none();
     node.value = Now::Plain(Value::Bool(false));
 }

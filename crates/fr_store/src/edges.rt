@@ -1,15 +1,16 @@
 ghost use Rattle.std.specs.Prelude.{◌≡◌, ℕ, ◌+◌, ◌^◌, ◌<◌, ◌≤◌, [], false, None, OnOk, OnErr, IsOk, length};
 ghost use Rattle.fr_links.specs.Lists.{has_item, list_at};
-ghost use Rattle.fr_store.specs.Nodes.{signal_at};
-ghost use Rattle.fr_store.specs.Kept.{AreEdges, SameEdges, Widened, Wires, first_at, room_at};
+ghost use Rattle.fr_store.specs.Nodes.{most_nodes, signal_at};
+ghost use Rattle.fr_store.specs.Kept.{AreEdges, SameEdges, Widened, Wires, edge_count, first_at, owner_at, room_at};
 
 use crate::inputs::Inputs;
 use crate::wiring::{link, unlink};
 use fr_links::Links;
+use fr_value::NodeId;
 use std::alloc::{AllocError, Global};
 
-/// The fewest places for which a number has edges.
-const FEWEST: usize = 4;
+/// Edges of one number lie side by side in groups of so many.
+const GROUP: usize = 4;
 
 /// How many edges there can be.
 const MOST: usize = 1 << 31;
@@ -27,7 +28,7 @@ pub(crate) struct Run {
 #[derive(Drop)]
 pub(crate) struct Edges {
     pub(crate) runs: Vec<Run>,
-    /// The number of each edge.
+    /// The number of each group of edges.
     pub(crate) owners: Vec<u32>,
     pub(crate) links: Links,
 }
@@ -55,11 +56,19 @@ impl Edges {
         }
     }
 
+    /// The number of an edge.
+    pub(crate) fn owner(&self, edge: usize) -> NodeId
+        requires { edge < edge_count self.now }
+        ensures { result.0 ≡ owner_at self.now.owners.items edge }
+    {
+        NodeId(self.owners[edge / GROUP])
+    }
+
     /// Takes the memory for so many places of a number that names none. An error leaves all as it was.
     pub(crate) fn widen(&mut self, number: usize, places: usize) -> Result<(), AllocError>
         requires sound { AreEdges self.old }
         requires near { number ≤ length self.old.runs.items }
-        requires few { number < 4194304 }
+        requires few { number < most_nodes }
         requires idle { (l p : ℕ) → p < room_at self.old.runs.items number → has_item (list_at self.old.links.lists l) (first_at self.old.runs.items number + p) ≡ false }
         ensures sound { AreEdges self.new }
         ensures ok { OnOk result (Widened self.old self.new number places) }
@@ -68,15 +77,18 @@ impl Edges {
         if number < self.runs.len() && places <= self.run(number).room as usize {
             return Ok(());
         }
-        let room = places.max(FEWEST);
-        let first = self.owners.len();
-        if room > MOST - first {
+        let before = self.owners.len();
+        let first = GROUP * before;
+        let places = places.max(1);
+        if places > MOST - first {
             return Err(AllocError);
         }
+        let groups = (places - 1) / GROUP + 1;
+        let room = GROUP * groups;
         self.runs.reserve(1)?;
-        self.owners.reserve(room)?;
+        self.owners.reserve(groups)?;
         self.links.reserve(number + 1, first + room)?;
-        self.owners.resize(first + room, number as u32)?;
+        self.owners.resize(before + groups, number as u32)?;
         let run = Run {
             first: first as u32,
             room: room as u32,

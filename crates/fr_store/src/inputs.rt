@@ -3,8 +3,8 @@ ghost use Rattle.std.specs.Option.{option_map};
 ghost use Rattle.fr_store.specs.Nodes.{number_of, signal_at};
 ghost use Rattle.fr_store.specs.Rows.{held_of, signals};
 
+use arrayvec::ArrayVec;
 use fr_value::{Held, NodeId, Value};
-use smallvec::SmallVec;
 use std::alloc::{AllocError, Global};
 use std::marker::Model;
 
@@ -17,8 +17,10 @@ pub struct Inputs {
 /// The inputs by what is among them.
 #[derive(Drop)]
 enum Row {
+    /// Few signals alone, by the numbers of their nodes.
+    Few(ArrayVec<u32, 4>),
     /// Signals alone, by the numbers of their nodes.
-    Signals(SmallVec<u32, 4>),
+    Many(Vec<u32>),
     /// The only input, a steady value.
     Steady(Value),
     Mixed(Vec<Held>),
@@ -50,16 +52,16 @@ impl Model for Inputs {
 
 impl Inputs {
     /// No inputs. It takes no memory.
-    pub(crate) fn none(alloc: Global) -> Inputs
+    pub(crate) fn none() -> Inputs
         ensures { result ≡ [] }
     {
         Inputs {
-            row: Row::Signals(SmallVec::new(alloc)),
+            row: Row::Few(ArrayVec::new()),
         }
     }
 
     /// One input. It takes no memory.
-    pub(crate) fn one(alloc: Global, input: Held) -> Inputs
+    pub(crate) fn one(input: Held) -> Inputs
         ensures { result ≡ input ∷ [] }
     {
         match input {
@@ -67,11 +69,9 @@ impl Inputs {
                 row: Row::Steady(value),
             },
             Held::Signal(id) => {
-                let mut ids = SmallVec::new(alloc);
-                ids.push_reserved(id.0);
-                Inputs {
-                    row: Row::Signals(ids),
-                }
+                let mut ids = ArrayVec::new();
+                ids.push(id.0);
+                Inputs { row: Row::Few(ids) }
             }
         }
     }
@@ -80,9 +80,12 @@ impl Inputs {
     pub(crate) fn of(alloc: Global, inputs: &[Held]) -> Result<Inputs, AllocError>
         ensures { IfOk result (λ it. it ≡ inputs.now) }
     {
-        if let Some(ids) = signals_of(alloc, inputs)? {
+        if let Some(ids) = few_of(inputs) {
+            return Ok(Inputs { row: Row::Few(ids) });
+        }
+        if let Some(ids) = many_of(alloc, inputs)? {
             return Ok(Inputs {
-                row: Row::Signals(ids),
+                row: Row::Many(ids),
             });
         }
         if let [Held::Steady(value)] = inputs {
@@ -99,7 +102,8 @@ impl Inputs {
         ensures { result ≡ length self.now }
     {
         match &self.row {
-            Row::Signals(ids) => ids.len(),
+            Row::Few(ids) => ids.len(),
+            Row::Many(ids) => ids.len(),
             Row::Steady(_) => 1,
             Row::Mixed(inputs) => inputs.len(),
         }
@@ -110,7 +114,8 @@ impl Inputs {
         ensures { option_map held_of result ≡ slice_get self.now place }
     {
         match &self.row {
-            Row::Signals(ids) => Some(Input::Signal(NodeId(*ids.as_slice().get(place)?))),
+            Row::Few(ids) => Some(Input::Signal(NodeId(*ids.as_slice().get(place)?))),
+            Row::Many(ids) => Some(Input::Signal(NodeId(*ids.get(place)?))),
             Row::Steady(value) => {
                 if place == 0 {
                     Some(Input::Steady(value))
@@ -142,11 +147,25 @@ fn read(input: &Held) -> Input<'_>
     }
 }
 
+/// The nodes' numbers where all inputs are signals, of which there are up to four, and else None.
+fn few_of(inputs: &[Held]) -> Option<ArrayVec<u32, 4>>
+    ensures { IfSome result (λ ids. signals ids.items ≡ inputs.now) }
+{
+    let mut ids = ArrayVec::new();
+    for input in inputs {
+        match input {
+            Held::Signal(id) => ids.try_push(id.0).ok()?,
+            Held::Steady(_) => return None,
+        }
+    }
+    Some(ids)
+}
+
 /// The nodes' numbers where all inputs are signals, and else None.
-fn signals_of(alloc: Global, inputs: &[Held]) -> Result<Option<SmallVec<u32, 4>>, AllocError>
+fn many_of(alloc: Global, inputs: &[Held]) -> Result<Option<Vec<u32>>, AllocError>
     ensures { IfOk result (λ found. IfSome found (λ ids. signals ids.items ≡ inputs.now)) }
 {
-    let mut ids = SmallVec::new(alloc);
+    let mut ids = Vec::new(alloc);
     for input in inputs {
         match input {
             Held::Signal(id) => ids.push(id.0)?,

@@ -1,9 +1,11 @@
 ghost use Rattle.std.specs.Prelude.{◌≡◌};
-ghost use Rattle.fr_store.specs.Nodes.{is_watch};
+ghost use Rattle.fr_store.specs.Nodes.{is_watch, new_node};
 
+use crate::cell::NodeCell;
 use crate::inputs::Inputs;
-use fr_value::{EraId, Held, KernId, Now, Primitive, SiteId, Value};
-use sqlite_items::Items;
+use crate::source::Source;
+use crate::variables::Variables;
+use fr_value::{EraId, KernId, Now, Primitive, SiteId, Value};
 
 /// What a kernel node computes of its inputs.
 #[derive(Clone, Copy, Debug, PartialEq, Eq)]
@@ -30,7 +32,7 @@ pub enum NodeKind {
     /// A pure expression.
     Kernel(Code),
     /// The test of an `if` that varies: its site, and what the variables of its place hold.
-    IfWatch(SiteId, Items<Held>),
+    IfWatch(SiteId, Variables),
     /// What the choice of a watch gives.
     Result,
     /// An event whose payloads a handler makes anew.
@@ -66,15 +68,6 @@ impl NodeKind {
     }
 }
 
-/// What a node keeps from one instant to the next.
-#[derive(Drop)]
-pub enum Cell {
-    /// A datum.
-    Kept(Value),
-    /// An event's state.
-    Payload(Option<Value>),
-}
-
 /// A node of the graph.
 #[derive(Drop)]
 pub struct Node {
@@ -82,10 +75,10 @@ pub struct Node {
     /// What it is computed of.
     pub inputs: Inputs,
     /// Of a `Delay`, `DelayE` or `Feedback`, what it shows one instant later.
-    pub source: Option<Held>,
+    pub source: Source,
     /// `#f` until the node is computed.
     pub value: Now,
-    pub cell: Option<Cell>,
+    pub cell: NodeCell,
     /// Above that of each node that it is computed of.
     pub height: u128,
     /// The number of the instant at which it was computed last, and None before.
@@ -95,4 +88,30 @@ pub struct Node {
     /// How many levels of evaluation its expression stands below the outermost one.
     pub nest: u32,
     pub era: EraId,
+}
+
+impl Node {
+    pub(crate) fn new(
+        kind: NodeKind,
+        inputs: Inputs,
+        era: EraId,
+        height: u128,
+        nest: u32,
+        instant: u64,
+    ) -> Node
+        ensures { result ≡ new_node kind inputs era height nest instant }
+    {
+        Node {
+            kind,
+            inputs,
+            source: Source::none(),
+            value: Now::Plain(Value::Bool(false)),
+            cell: NodeCell::none(),
+            height,
+            stamp: None,
+            born: instant,
+            nest,
+            era,
+        }
+    }
 }

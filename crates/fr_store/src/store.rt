@@ -1,13 +1,14 @@
 ghost use Rattle.std.specs.Prelude.{◌≡◌, ℕ, ◌+◌, ◌^◌, ◌<◌, ◌≤◌, ◌↔◌, [], ◌∷◌, true, Some, None, Err, IfOk, OnOk, OnErr, length, IsSome, IsTrue, is_some, count_by};
 ghost use Rattle.fr_store.specs.Kept.{AreEdges, AreListed, IsReady, IsTable, KeepsInputs, SameEdges, SameTable, Widened, changed, inputs_at, next_number, nodes_of};
-ghost use Rattle.fr_store.specs.Nodes.{Edge, Stored, StandsAt, IsEdge, AreDependents, AreLive, AreLow, Makes, Renames, node_at, node_in, height_in, reads, dependents_at, edge_number, new_node, least_height, computed, latched, rewired, tied, lifted, cleared, with_node};
+ghost use Rattle.fr_store.specs.Nodes.{most_height, most_nodes, Edge, Stored, StandsAt, IsEdge, AreDependents, AreLive, AreLow, Makes, Renames, node_at, node_in, height_in, reads, dependents_at, edge_number, new_node, least_height, computed, latched, rewired, tied, lifted, cleared, with_node};
 
+use crate::cell::Cell;
 use crate::change::Change;
 use crate::edges::Edges;
 use crate::inputs::Inputs;
-use crate::node::{Cell, Node, NodeKind};
+use crate::node::{Node, NodeKind};
 use crate::table::Table;
-use fr_value::{EraId, Held, NodeId, Now, Value};
+use fr_value::{EraId, Held, NodeId, Now};
 use std::alloc::{AllocError, Global};
 use std::marker::Model;
 
@@ -61,7 +62,7 @@ impl Model for Store {
 impl Store {
     /// A store without nodes, for at most so many. It takes no memory.
     pub fn new(alloc: Global, limit: u32) -> Store
-        requires { limit ≤ 4194304 }
+        requires { limit ≤ most_nodes }
         ensures { result ≡ record { limit = limit; nodes = []; dependents = [] } }
     {
         Store {
@@ -88,7 +89,7 @@ impl Store {
     ) -> Result<NodeId, MakeStop>
         requires live { AreLive self.old inputs.now }
         requires low { AreLow self.old inputs.now }
-        requires floor { floor ≤ 2 ^ 120 }
+        requires floor { floor ≤ most_height }
         ensures made { IfOk result (λ id. Makes self.old self.new id.0 (new_node kind inputs.now era (least_height self.old.nodes floor inputs.now) nest instant)) }
         ensures too_many { (result ≡ Err MakeStop.TooMany) ↔ (count_by is_some self.old.nodes ≡ self.old.limit) }
         ensures err { OnErr result (self.new ≡ self.old) }
@@ -99,18 +100,8 @@ impl Store {
         let height = least_height(&self.table, floor, inputs);
         let inputs = prepare(self.alloc, &mut self.table, &mut self.edges, inputs)?;
         self.edges.wire(self.table.next(), &inputs);
-        let id = self.table.put(Node {
-            kind,
-            inputs,
-            source: None,
-            value: Now::Plain(Value::Bool(false)),
-            cell: None,
-            height,
-            stamp: None,
-            born: instant,
-            nest,
-            era,
-        });
+        let node = Node::new(kind, inputs, era, height, nest, instant);
+        let id = self.table.put(node);
         Ok(id)
     }
 
@@ -136,7 +127,7 @@ impl Store {
         requires live { AreLive self.old (input ∷ []) }
         ensures { (n : Node) → node_at self.old id.0 ≡ Some n → Renames self.old self.new id.0 (rewired n input) }
     {
-        let inputs = Inputs::one(self.alloc, input);
+        let inputs = Inputs::one(input);
         self.edges.wire(id.0 as usize, &inputs);
         self.table.change(id, Change::Inputs(inputs));
     }
@@ -204,7 +195,7 @@ impl Store {
     pub fn count(&self) -> u32
         ensures value { result ≡ count_by is_some self.now.nodes }
         ensures below { result ≤ self.now.limit }
-        ensures limit { self.now.limit ≤ 4194304 }
+        ensures limit { self.now.limit ≤ most_nodes }
     {
         self.table.count
     }
@@ -231,7 +222,7 @@ impl Store {
         requires { IsEdge self.now edge }
         ensures { (i place : ℕ) (e : Edge) → StandsAt self.now edge i place e → result.0 ≡ e.node }
     {
-        NodeId(self.edges.owners[edge])
+        self.edges.owner(edge)
     }
 
     /// Writes what leaves a node's inputs as they are.
@@ -254,7 +245,7 @@ fn prepare(
     requires table { IsTable table.old }
     requires edges { AreEdges edges.old }
     requires runs { length edges.old.runs.items ≡ length table.old.keys.items }
-    requires few { table.old.count < 4194304 }
+    requires few { table.old.count < most_nodes }
     requires listed { AreListed edges.old (inputs_at table.old) }
     ensures inputs { IfOk result (λ held. held ≡ inputs.now) }
     ensures table { IsTable table.new }
@@ -272,8 +263,8 @@ fn prepare(
 
 fn least_height(table: &Table, floor: u128, inputs: &[Held]) -> u128
     requires live { (i : ℕ) → reads i inputs.now ≡ true → IsSome (node_in (nodes_of table.now) i) }
-    requires low { (i : ℕ) (n : Node) → reads i inputs.now ≡ true → node_in (nodes_of table.now) i ≡ Some n → n.height ≤ 2 ^ 120 }
-    requires floor { floor ≤ 2 ^ 120 }
+    requires low { (i : ℕ) (n : Node) → reads i inputs.now ≡ true → node_in (nodes_of table.now) i ≡ Some n → n.height ≤ most_height }
+    requires floor { floor ≤ most_height }
     ensures { result ≡ least_height (nodes_of table.now) floor inputs.now }
 {
     let mut height = floor;

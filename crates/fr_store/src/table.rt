@@ -1,7 +1,7 @@
 ghost use Rattle.std.specs.Prelude.{◌≡◌, ℕ, ◌+◌, ◌<◌, ◌≤◌, ◌↔◌, [], Some, None, OnOk, OnErr, IsSome, length, slice_set};
 ghost use Rattle.std.specs.Option.{option_copied};
 ghost use Rattle.slab.specs.Slab.{Updates};
-ghost use Rattle.fr_store.specs.Nodes.{node_in, placed};
+ghost use Rattle.fr_store.specs.Nodes.{most_nodes, node_in, placed};
 ghost use Rattle.fr_store.specs.Kept.{IsTable, IsReady, SameTable, SameNumbers, changed, key_at, next_number, nodes_of};
 
 use crate::change::Change;
@@ -93,7 +93,7 @@ impl Table {
     pub(crate) fn put(&mut self, node: Node) -> NodeId
         requires sound { IsTable self.old }
         requires ready { IsReady self.old }
-        requires few { self.old.count < 4194304 }
+        requires few { self.old.count < most_nodes }
         ensures sound { IsTable self.new }
         ensures number { result.0 ≡ next_number self.old }
         ensures count { self.new.count ≡ self.old.count + 1 }

@@ -43,6 +43,7 @@ made c = record {
       c.next.ensures c.wire.ensures.wired;
   table = c.put-id.ensures.sound;
   nodes = c.put-id.ensures.placed
+      ∙ ap (placed (nodes_of c.prepare.new.table) c.put-id.result.0) c.new-node.ensures
       ∙ ap (λ (i : ℕ). placed (nodes_of c.prepare.new.table) i (new_node c.args.kind c.in_ok-inputs.inputs c.args.era c.least_height-height.result c.args.nest c.args.instant)) c.put-id.ensures.number;
   room = let h = c.if-self.false in omega arith;
 }
