@@ -1,5 +1,6 @@
 mod Runs
 pub mod Numbers
+mod Arithmetic
 mod Copies
 pub mod InOrder
 mod Gathering

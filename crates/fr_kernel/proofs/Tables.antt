@@ -10,8 +10,8 @@ use Rattle.fr_core.specs.declared.kept.Kept.{Kept}
 use Rattle.fr_core.specs.declared.kept.Kept.TheVariants as kept
 use Rattle.fr_core.specs.declared.program.Function.{Function}
 use Rattle.fr_core.specs.declared.program.Program.{Program}
-use Rattle.fr_meaning.specs.Words.{Env, Done}
-use Rattle.fr_meaning.specs.Evaluation.{World, world_of, body_with, eval}
+use Rattle.fr_meaning.specs.Words.{Seen, Env, Done}
+use Rattle.fr_meaning.specs.Evaluation.{World, world_of, body_with, eval, eval_to}
 use Rattle.fr_meaning.specs.Agreement.{Agree}
 use Rattle.fr_kernel.specs.declared.fuel.KernStop.{KernStop}
 use Rattle.fr_kernel.specs.declared.table.Kern.{Kern}
@@ -21,6 +21,7 @@ use Rattle.fr_kernel.specs.Loops.{loop_over, loop_at}
 use Rattle.fr_kernel.specs.Numbers.{Scheme, numbered, restored}
 use Rattle.fr_kernel.specs.Placed.{scheme_of, scheme_for}
 use Rattle.fr_kernel.specs.Purity.{IsPureOver}
+use Rattle.fr_kernel.specs.Runs.{code_of, CodeRan, CodeLooped}
 use Rattle.fr_kernel.specs.Slots.{slots_for}
 use Rattle.fr_kernel.specs.Tables.{expr_of, kernel_of, IsKernel, AreKernels}
 use Rattle.fr_kernel.proofs.Turning.{loops_same}
@@ -170,6 +171,25 @@ module _ (fs : List Function) (ks : List Kern) (t : Kernels) (view : record { fu
 
   only : (k : Kernel) → slice_get t.kernels i ≡ Some k → kernel_of q ≡ k
   only k h = let e : Some (kernel_of q) ≡ Some k = sym seen_here ∙ h in cc
+
+  -- its code
+  pub code_here : (k : Kernel) → slice_get t.kernels i ≡ Some k → q.code ≡ code_of k
+  code_here k at =
+      let h = kernel_here in
+      let coded : q.code ≡ code_of (kernel_of q) = h.code ∙ ap (λ s. numbered s (expr_of q)) h.names in
+      coded ∙ ap code_of (only k at)
+
+  pub code_answers : (gs : List Function) → gs ≡ fs → (slots args : List Seen) (r : Result Now KernStop) (before after levels : ℕ)
+      → ((kept : Kept) → Ran r before after (eval_to levels (world gs) q.code (slots ++ args) kept)) → CodeRan t i slots args levels before after r
+  code_answers gs of_table slots args r before after levels run k at kept =
+      subst (λ c. Ran r before after (eval_to levels (world_at t []) c (slots ++ args) kept)) (code_here k at)
+      (subst (λ hs. Ran r before after (eval_to levels (world hs) q.code (slots ++ args) kept)) (of_table ∙ ap (λ (t : Kernels). t.functions) view) (run kept))
+
+  pub code_loops : (gs : List Function) → gs ≡ fs → (l : Loop) (values slots : List Seen) (r : Result Now KernStop) (before after levels : ℕ)
+      → Ran r before after (loop_over l (body_with (eval_to levels (world gs)) slots q.code) values) → CodeLooped t i l values slots levels before after r
+  code_loops gs of_table l values slots r before after levels run k at =
+      subst (λ c. Ran r before after (loop_over l (body_with (eval_to levels (world_at t [])) slots c) values)) (code_here k at)
+      (subst (λ hs. Ran r before after (loop_over l (body_with (eval_to levels (world hs)) slots q.code) values)) (of_table ∙ ap (λ (t : Kernels). t.functions) view) run)
 
   module _ (gs : List Function) (of_table : gs ≡ fs) (inputs : List Now) (r : Result Now KernStop) (before after nest : ℕ) where
     pub kern_answers : ((k : Kept) → Ran r before after (eval (world gs) nest q.code (slot_values q.names.params inputs) k))

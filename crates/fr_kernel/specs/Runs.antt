@@ -7,13 +7,15 @@ use Rattle.fr_core.specs.declared.core_form.Core.{Core}
 use Rattle.fr_core.specs.declared.core_form.Loop.{Loop}
 use Rattle.fr_core.specs.declared.kept.Kept.{Kept}
 use Rattle.fr_core.specs.declared.program.Program.{Program}
-use Rattle.fr_meaning.specs.Words.{Env}
-use Rattle.fr_meaning.specs.Evaluation.{world_of, eval}
+use Rattle.fr_meaning.specs.Words.{Seen, Env}
+use Rattle.fr_meaning.specs.Evaluation.{world_of, body_with, eval, eval_to}
 use Rattle.fr_meaning.specs.Agreement.{Agree}
 use Rattle.fr_kernel.specs.declared.fuel.KernStop.{KernStop}
 use Rattle.fr_kernel.specs.Answers.{Ran}
 use Rattle.fr_kernel.specs.Kernels.{Kernel, Kernels, kernel_for, inputs_of, world_at, AreInputs, AreOthers}
-use Rattle.fr_kernel.specs.Loops.{loop_at}
+use Rattle.fr_kernel.specs.Loops.{loop_over, loop_at}
+use Rattle.fr_kernel.specs.Numbers.{numbered}
+use Rattle.fr_kernel.specs.Placed.{scheme_for}
 
 -- the kernel of this number
 abbrev pub IsAt : Kernels → ℕ → Kernel → Type 0
@@ -42,6 +44,20 @@ abbrev pub LoopRan : Kernels → ℕ → Loop → List Now → ℕ → ℕ → �
 LoopRan t id l inputs nest before after r =
     (k : Kernel) (sources : List Now) (env : Env) → IsAt t id k → AreOthers k sources env (drop 2 inputs)
     → Ran r before after (loop_at (world_at t sources) nest l k.expr env inputs)
+
+-- the code of a kernel: its expression, whose variables and sources became slots
+abbrev pub code_of : Kernel → Core
+code_of k = numbered (scheme_for k.first k.params k.expr) k.expr
+
+-- a run of a kernel's code to so many levels tells of its evaluation over the values of its slots, those of its parameters behind the others, whatever was kept
+abbrev pub CodeRan : Kernels → ℕ → List Seen → List Seen → ℕ → ℕ → ℕ → Result Now KernStop → Type 0
+CodeRan t id slots args levels before after r =
+    (k : Kernel) → IsAt t id k → (kept : Kept) → Ran r before after (eval_to levels (world_at t []) (code_of k) (slots ++ args) kept)
+
+-- a run of a loop whose body is this kernel's code, which may nest so many levels, tells of the evaluation of its turns over these values, where the slots other than the parameters have those
+abbrev pub CodeLooped : Kernels → ℕ → Loop → List Seen → List Seen → ℕ → ℕ → ℕ → Result Now KernStop → Type 0
+CodeLooped t id l values slots levels before after r =
+    (k : Kernel) → IsAt t id k → Ran r before after (loop_over l (body_with (eval_to levels (world_at t [])) slots (code_of k)) values)
 
 -- a pure expression tells the same at two places where its kernel has the same inputs
 abbrev pub EqualInputsAgree : Type 0

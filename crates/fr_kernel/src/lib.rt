@@ -16,4 +16,4 @@ mod walking;
 pub use fuel::{Fuel, KernStop};
 pub use laws::{equal_inputs_tell_the_same, numbering_keeps_the_meaning};
 pub use machine::Machine;
-pub use table::{KernTable, run_fold, run_kern, run_repeat};
+pub use table::{KernTable, loop_code, run_code, run_fold, run_kern, run_repeat};

@@ -2,11 +2,11 @@
 ghost use Rattle.std.specs.Prelude.{◌≡◌, ◌≤◌, ◌-◌, ◌+◌, IfOk, Ok, map, drop, length};
 ghost use Rattle.fr_meaning.specs.Evaluation.{eval, body_with};
 ghost use Rattle.fr_kernel.specs.Purity.{IsPureOver};
-ghost use Rattle.fr_kernel.specs.Answers.{world, scope, Ran};
+ghost use Rattle.fr_kernel.specs.Answers.{world, here, scope, Ran};
 ghost use Rattle.fr_kernel.specs.Loops.{loop_over};
 
 use crate::fuel::{Fuel, KernStop};
-use crate::machine::{Machine, begin, share_behind};
+use crate::machine::{Machine, begin, begin_over, share_behind};
 use crate::running::finish;
 use crate::walking::walk_rounds;
 use fr_core::{Core, Function, Loop};
@@ -74,6 +74,33 @@ fn loop_begun(
                 values.as_slice(),
                 body,
             );
+            finish(machine, kind, fuel)
+        }
+    }
+}
+
+/// Evaluates the turns of a loop over these values, the first of which are the first accumulator and the list or count,
+/// where the variables around its body have others and the body may nest so many levels. It names no source.
+///
+/// What it answers is told of these turns as of an evaluation in `run`.
+pub(crate) fn loop_over_seen(
+    alloc: Global,
+    functions: &[Function],
+    looped: Loop,
+    body: &Core,
+    values: &[Seen],
+    slots: &[Seen],
+    levels: u32,
+    machine: &mut Machine,
+    fuel: &mut Fuel,
+) -> Result<Now, KernStop>
+    requires { IsPureOver functions.now body.now }
+    ensures { let turn = body_with (here functions.now levels) slots.now body.now in Ran result fuel.old.left fuel.new.left (loop_over looped turn values.now) }
+{
+    match begin_over(machine, slots, &[], fuel.left) {
+        Err(e) => Err(KernStop::Memory(e)),
+        Ok(()) => {
+            let kind = walk_rounds(alloc, functions, levels, machine, 0, looped, values, body);
             finish(machine, kind, fuel)
         }
     }

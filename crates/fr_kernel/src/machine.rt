@@ -6,7 +6,7 @@ ghost use Rattle.fr_forms.specs.Lent.{bound};
 ghost use Rattle.fr_kernel.specs.Answers.{scope, Answers, Begins, TakesOr, PutsOr, TestsOr, BindsOr, AppliesHeld, BindsTurnOr, SpendsOr};
 
 use crate::fuel::KernStop;
-use fr_forms::{Seen, apply_primitive, share_part, test_in};
+use fr_forms::{Seen, apply_primitive, share_part, share_seen, test_in};
 use fr_value::{Bad, Now, Primitive, Value};
 use sqlite_items::Items;
 use std::alloc::{AllocError, Global};
@@ -63,6 +63,33 @@ pub(crate) fn share_behind(stack: &mut Items<Seen>, values: &[Now]) -> Result<()
         stack.push(Ok(value.share()?))?;
     }
     Ok(())
+}
+
+/// Puts these values behind those of a stack, some of which may be Bad. It fails only where there is no memory.
+fn share_seen_behind(stack: &mut Items<Seen>, values: &[Seen]) -> Result<(), AllocError>
+    ensures { OnOk result (stack.new ≡ stack.old ++ values.now) }
+{
+    for value in values {
+        stack.push(share_seen(value)?)?;
+    }
+    Ok(())
+}
+
+/// Begins a run with so much fuel, where these values are the slots, first the former, and some may be Bad. It fails
+/// only where there is no memory.
+pub(crate) fn begin_over(
+    m: &mut Machine,
+    first: &[Seen],
+    others: &[Seen],
+    fuel: u64,
+) -> Result<(), AllocError>
+    ensures { OnOk result (Begins m.new fuel (first.now ++ others.now)) }
+{
+    m.fuel = fuel;
+    cut(&mut m.held, 0);
+    cut(&mut m.slots, 0);
+    share_seen_behind(&mut m.slots, first)?;
+    share_seen_behind(&mut m.slots, others)
 }
 
 /// Begins a run with so much fuel, where these values are the slots, first the former. It fails only where there is no
@@ -170,6 +197,7 @@ pub(crate) fn hold(m: &mut Machine, kind: Kind) -> bool
 }
 
 /// Whether a test holds that has this answer; None where it has none or where that can't be told, and `stop` says why.
+#[inline(always)]
 pub(crate) fn tested(m: &mut Machine, kind: Kind) -> Option<bool>
     ensures { TestsOr result kind m.old m.new }
 {

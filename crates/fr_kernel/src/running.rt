@@ -1,15 +1,16 @@
-ghost use Rattle.std.specs.Prelude.{◌≡◌, ◌≤◌, ◌-◌, length};
+ghost use Rattle.std.specs.Prelude.{◌≡◌, ◌≤◌, ◌-◌, ◌++◌, length};
 ghost use Rattle.fr_core.specs.declared.kept.Kept.{Kept};
 ghost use Rattle.fr_meaning.specs.Words.{Done as Evaluated};
 ghost use Rattle.fr_meaning.specs.Evaluation.{eval};
 ghost use Rattle.fr_kernel.specs.declared.machine.Machine.{Machine as AnyMachine};
 ghost use Rattle.fr_kernel.specs.Purity.{IsPureOver};
-ghost use Rattle.fr_kernel.specs.Answers.{world, scope, slot_values, Tells, Ran};
+ghost use Rattle.fr_kernel.specs.Answers.{world, here, scope, slot_values, Tells, Ran};
 
 use crate::fuel::{Fuel, KernStop};
-use crate::machine::{Kind, Machine, begin, value_of};
+use crate::machine::{Kind, Machine, begin, begin_over, value_of};
 use crate::walking::walk;
 use fr_core::{Core, Function};
+use fr_forms::Seen;
 use fr_value::Now;
 use std::alloc::Global;
 
@@ -43,23 +44,46 @@ pub(crate) fn run(
     let (first, others) = inputs.split_at(params);
     match begin(machine, others, first, fuel.left) {
         Err(e) => Err(KernStop::Memory(e)),
-        Ok(()) => run_begun(alloc, functions, expr, nest, machine, fuel),
+        Ok(()) => run_begun(alloc, functions, expr, levels_from(nest), machine, fuel),
     }
 }
 
-/// The same, where the machine has the inputs and the fuel.
-fn run_begun(
+/// Evaluates an expression to a number of levels, where these values are its variables, first the former, and it names
+/// no source.
+///
+/// What it answers is told of this evaluation as in `run`.
+pub(crate) fn run_over(
     alloc: Global,
     functions: &[Function],
     expr: &Core,
-    nest: u32,
+    first: &[Seen],
+    others: &[Seen],
+    levels: u32,
     machine: &mut Machine,
     fuel: &mut Fuel,
 ) -> Result<Now, KernStop>
     requires { IsPureOver functions.now expr.now }
-    ensures { (k : Kept) → Ran result machine.old.fuel fuel.new.left (eval (world functions.now) nest expr.now (scope 0 machine.old) k) }
+    ensures { (k : Kept) → Ran result fuel.old.left fuel.new.left (here functions.now levels expr.now (first.now ++ others.now) k) }
 {
-    let kind = walk(alloc, functions, levels_from(nest), machine, 0, expr);
+    match begin_over(machine, first, others, fuel.left) {
+        Err(e) => Err(KernStop::Memory(e)),
+        Ok(()) => run_begun(alloc, functions, expr, levels, machine, fuel),
+    }
+}
+
+/// The same, where the machine has the values and the fuel.
+fn run_begun(
+    alloc: Global,
+    functions: &[Function],
+    expr: &Core,
+    levels: u32,
+    machine: &mut Machine,
+    fuel: &mut Fuel,
+) -> Result<Now, KernStop>
+    requires { IsPureOver functions.now expr.now }
+    ensures { (k : Kept) → Ran result machine.old.fuel fuel.new.left (here functions.now levels expr.now (scope 0 machine.old) k) }
+{
+    let kind = walk(alloc, functions, levels, machine, 0, expr);
     finish(machine, kind, fuel)
 }
 

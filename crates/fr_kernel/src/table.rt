@@ -1,17 +1,18 @@
-ghost use Rattle.std.specs.Prelude.{◌≡◌, ◌<◌, [], IfOk, IfErr, length};
+ghost use Rattle.std.specs.Prelude.{◌≡◌, ◌<◌, ◌↔◌, [], IfOk, IfErr, IsTrue, length};
 ghost use Rattle.fr_core.specs.declared.core_form.Loop.TheVariants as loop;
 ghost use Rattle.fr_kernel.specs.Kernels.{kernel_for};
 ghost use Rattle.fr_kernel.specs.Purity.{IsPureOver};
-ghost use Rattle.fr_kernel.specs.Runs.{with_kernel, TakesInputs, TakesTurns, KernelRan, LoopRan};
+ghost use Rattle.fr_kernel.specs.Runs.{with_kernel, TakesInputs, TakesTurns, KernelRan, LoopRan, CodeRan, CodeLooped};
 ghost use Rattle.fr_kernel.specs.Slots.{slots_of};
 
 use crate::fuel::{Fuel, KernStop};
-use crate::looping::run_loop;
+use crate::looping::{loop_over_seen, run_loop};
 use crate::machine::Machine;
 use crate::names::Names;
 use crate::placing::place;
-use crate::running::run;
+use crate::running::{run, run_over};
 use fr_core::{Core, Function, Loop, Program, Slot};
+use fr_forms::Seen;
 use fr_value::{KernId, Now};
 use sqlite_items::Items;
 use std::alloc::{AllocError, Global};
@@ -108,6 +109,13 @@ impl KernTable {
         self.kernels.push(Kern { code, names })?;
         Ok((KernId(id), slots))
     }
+
+    /// Whether a kernel has this number. It takes no memory.
+    pub fn has(&self, id: KernId) -> bool
+        ensures { IsTrue result ↔ (id.0 < length self.now.kernels) }
+    {
+        id.0 < self.kernels.len() as u64
+    }
 }
 
 /// Runs a kernel at a nest, over the values of its parameters and then of its other slots.
@@ -197,6 +205,69 @@ pub fn run_repeat(
         &kernel.code,
         inputs,
         nest,
+        machine,
+        fuel,
+    )
+}
+
+/// Runs a kernel to a number of levels, over the values of its slots other than its parameters and then of these, some
+/// of which may be Bad.
+///
+/// What it answers is told as in `run_kern` of evaluating the kernel's code over these values, whatever was kept.
+pub fn run_code(
+    alloc: Global,
+    table: &KernTable,
+    id: KernId,
+    slots: &[Seen],
+    args: &[Seen],
+    levels: u32,
+    machine: &mut Machine,
+    fuel: &mut Fuel,
+) -> Result<Now, KernStop>
+    requires { id.0 < length table.now.kernels }
+    ensures { CodeRan table.now id.0 slots.now args.now levels fuel.old.left fuel.new.left result }
+{
+    let kernel = &table.kernels.as_slice()[id.0 as usize];
+    run_over(
+        alloc,
+        table.functions.as_slice(),
+        &kernel.code,
+        slots,
+        args,
+        levels,
+        machine,
+        fuel,
+    )
+}
+
+/// Runs a loop whose body is a kernel that may nest so many levels, over values of which the first is the first
+/// accumulator and the second the list or count, where the slots of the body other than its parameters have others. Some
+/// may be Bad.
+///
+/// What it answers is told as in `run_kern` of evaluating the turns over these values.
+pub fn loop_code(
+    alloc: Global,
+    table: &KernTable,
+    looped: Loop,
+    body: KernId,
+    values: &[Seen],
+    slots: &[Seen],
+    levels: u32,
+    machine: &mut Machine,
+    fuel: &mut Fuel,
+) -> Result<Now, KernStop>
+    requires { body.0 < length table.now.kernels }
+    ensures { CodeLooped table.now body.0 looped values.now slots.now levels fuel.old.left fuel.new.left result }
+{
+    let kernel = &table.kernels.as_slice()[body.0 as usize];
+    loop_over_seen(
+        alloc,
+        table.functions.as_slice(),
+        looped,
+        &kernel.code,
+        values,
+        slots,
+        levels,
         machine,
         fuel,
     )

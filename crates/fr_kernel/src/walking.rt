@@ -16,10 +16,10 @@ ghost use Rattle.fr_kernel.specs.Purity.{IsPureOver, ArePureOver, IsPureCall};
 ghost use Rattle.fr_kernel.specs.Answers.{here, scope, Answers, Tells, HoldsOr};
 
 use crate::fuel::KernStop;
-use crate::integers::{apply_second, leaf_int, table_ints};
+use crate::integers::{apply_second, leaf_int, literal, on_ints, slot};
 use crate::machine::{
-    Kind, Machine, apply_held, bind_held, bind_turn, cut_slots, give, give_literal, give_slot,
-    hold, int, spend, stopped, take_held, tested, value_of,
+    Kind, Machine, apply_held, bind_held, bind_turn, cut_slots, give, hold, int, spend, stopped,
+    take_held, tested, value_of,
 };
 use fr_core::{Core, Function, Loop, Operator};
 use fr_forms::{Round, Rounds, Seen, rounds_of, share_part};
@@ -82,8 +82,8 @@ pub(crate) fn walk(
     }
     let below = left - 1;
     match expr {
-        Core::Lit(value) => give_literal(m, value),
-        Core::Var(id) => give_slot(m, base, id.0),
+        Core::Lit(value) => literal(m, value),
+        Core::Var(id) => slot(m, base, id.0),
         Core::Source(_) => stopped(m, KernStop::Bad(Bad::Deep)),
         Core::If(test, a, b) => walk_if(
             alloc,
@@ -135,6 +135,7 @@ pub(crate) fn walk(
 
 /// Evaluates parts from left to right, and holds their values; false where one has none.
 #[cycle(walk)]
+#[inline(never)]
 fn walk_parts(
     alloc: Global,
     functions: &[Function],
@@ -157,6 +158,7 @@ fn walk_parts(
 }
 
 #[cycle(walk)]
+#[inline(always)]
 fn walk_if(
     alloc: Global,
     functions: &[Function],
@@ -183,6 +185,7 @@ fn walk_if(
 
 /// A primitive; no other operator is pure.
 #[cycle(walk)]
+#[inline(always)]
 fn walk_operator(
     alloc: Global,
     functions: &[Function],
@@ -204,6 +207,7 @@ fn walk_operator(
 }
 
 #[cycle(walk)]
+#[inline(always)]
 fn walk_prim(
     alloc: Global,
     functions: &[Function],
@@ -225,6 +229,7 @@ fn walk_prim(
 
 /// A primitive over two parts: integers are neither held nor copied.
 #[cycle(walk)]
+#[inline(always)]
 fn walk_two(
     alloc: Global,
     functions: &[Function],
@@ -277,7 +282,7 @@ fn walk_second(
     match second {
         Kind::Int => {
             let y = m.int;
-            table_ints(alloc, m, prim, x, y)
+            on_ints(alloc, m, prim, x, y)
         }
         _ => apply_second(alloc, m, prim, x, second),
     }
@@ -305,6 +310,7 @@ fn operand(
 }
 
 #[cycle(walk)]
+#[inline(never)]
 fn walk_many(
     alloc: Global,
     functions: &[Function],
@@ -326,6 +332,7 @@ fn walk_many(
 }
 
 #[cycle(walk)]
+#[inline(never)]
 fn walk_let(
     alloc: Global,
     functions: &[Function],
@@ -354,6 +361,7 @@ fn walk_let(
 }
 
 #[cycle(walk)]
+#[inline(never)]
 fn walk_call(
     alloc: Global,
     functions: &[Function],
@@ -388,6 +396,7 @@ fn walk_call(
 }
 
 #[cycle(walk)]
+#[inline(never)]
 fn walk_loop(
     alloc: Global,
     functions: &[Function],
@@ -424,6 +433,7 @@ fn walk_loop(
 
 /// The turns of a loop over the values of its parts.
 #[cycle(walk)]
+#[inline(never)]
 pub(crate) fn walk_rounds(
     alloc: Global,
     functions: &[Function],

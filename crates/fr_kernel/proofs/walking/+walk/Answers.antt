@@ -26,10 +26,10 @@ pub walk-returns-then-left-eq0 : goal.walk-returns-then-left-eq0
 walk-returns-then-left-eq0 t c = λ k. rw (at_zero _ _ _ _ _ c.if-left-eq0.true, c.stopped.ensures.0, c.stopped.ensures.1) refl
 
 pub walk-returns-in-Lit : goal.walk-returns-in-Lit
-walk-returns-in-Lit t c = λ k. rw (at_level c.args.left _ _ _ _ _ c.if-left-eq0.false (ap out-Core c.in-Lit.is ∙ outs-Lit _)) c.give_literal.ensures
+walk-returns-in-Lit t c = λ k. rw (at_level c.args.left _ _ _ _ _ c.if-left-eq0.false (ap out-Core c.in-Lit.is ∙ outs-Lit _)) c.literal.ensures
 
 pub walk-returns-in-Var : goal.walk-returns-in-Var
-walk-returns-in-Var t c = λ k. rw (at_level c.args.left _ _ _ _ _ c.if-left-eq0.false (ap out-Core c.in-Var.is ∙ outs-Var _)) c.give_slot.ensures
+walk-returns-in-Var t c = λ k. rw (at_level c.args.left _ _ _ _ _ c.if-left-eq0.false (ap out-Core c.in-Var.is ∙ outs-Var _)) c.slot.ensures
 
 pub walk-returns-in-Source : goal.walk-returns-in-Source
 walk-returns-in-Source t c = λ k. rw (at_level c.args.left _ _ _ _ _ c.if-left-eq0.false (ap out-Core c.in-Source.is ∙ outs-Source _), c.stopped-in-Source.ensures.0, c.stopped-in-Source.ensures.1) refl
@@ -214,8 +214,8 @@ walk_second-returns-in-Int t c =
     let m1 = c.operand-second.new.m in
     let h = rw c.in-Int.is at c.operand-second.ensures in
     let fits : SFits w64 m1.int = search rules in
-    let g = rw (to_z-of_z w64 c.args.x c.ranges.x, to_z-of_z w64 m1.int fits) at c.table_ints.ensures in
-    λ k. ints_then c.table_ints.result c.args.m.now m1 c.table_ints.new.m c.args.prim c.args.x (here c.args.functions.now c.args.left c.args.b.now (scope c.args.base c.args.m.now) k) (h k) g
+    let g = rw (to_z-of_z w64 c.args.x c.ranges.x, to_z-of_z w64 m1.int fits) at c.on_ints.ensures in
+    λ k. ints_then c.on_ints.result c.args.m.now m1 c.on_ints.new.m c.args.prim c.args.x (here c.args.functions.now c.args.left c.args.b.now (scope c.args.base c.args.m.now) k) (h k) g
 
 pub walk_second-returns-in_default : goal.walk_second-returns-in_default
 walk_second-returns-in_default t c = λ k. rw (to_z-of_z w64 c.args.x c.ranges.x) at
