@@ -162,3 +162,31 @@ loop_clean l acc x body other same = by_rounds (rounds l x) (rounds_of l x)
     by_rounds : (r : Result (List (List Seen)) Bad) → RoundsOf (beside_acc l) r → (all_turns body acc r).first ≡ None → (all_turns other acc r).first ≡ None
     by_rounds (Err b) a h = refl
     by_rounds (Ok rest) a h = turns_clean body other (beside_acc l) (λ args e. same args (e ∙ binds l)) 0 acc rest a h
+
+-- a handler's line has its cost by that of its call
+pub handler_cost : (h : Handler) (cell : Option Cell) (xs : List Seen) (call other : Call) → ((args : List Seen) → length args ≡ handler_binds h → (call args).cost ≡ (other args).cost)
+    → (state_now (of_handler h) cell xs call).cost ≡ (state_now (of_handler h) cell xs other).cost
+handler_cost h cell xs call other same = by_begun (handler_begin h cell xs) (handler_asks h cell xs)
+  where
+    by_begun : (b : Begun) → AsksFor (handler_binds h) b → (finished call (handler_end h) b).cost ≡ (finished other (handler_end h) b).cost
+    by_begun (known l) a = refl
+    by_begun (asks args) a = same args a
+
+module _ (body other : List Seen → Done) where
+  turns_cost : (m : ℕ) → ((args : List Seen) → length args ≡ suc m → ((body args).value ≡ (other args).value) × ((body args).cost ≡ (other args).cost))
+      → (t : ℕ) (acc : Seen) (rest : List (List Seen)) → AllOf m rest → (turns body t acc rest).cost ≡ (turns other t acc rest).cost
+  turns_cost m same t acc [] a = refl
+  turns_cost m same t acc (vs ∷ rest) a =
+      let s = same (acc ∷ vs) (ap suc a.0) in
+      ap (λ c. c + 1 + (turns body (t + 1) (body (acc ∷ vs)).value rest).cost) s.1
+      ∙ ap (λ v. (other (acc ∷ vs)).cost + 1 + (turns body (t + 1) v rest).cost) s.0
+      ∙ ap (λ c. (other (acc ∷ vs)).cost + 1 + c) (turns_cost m same (t + 1) (other (acc ∷ vs)).value rest a.1)
+
+-- a loop's turns cost what those of another body do that gives the same at the same cost
+pub loop_cost : (l : Loop) (acc x : Seen) (body other : List Seen → Done) → ((args : List Seen) → length args ≡ loop_binds l → ((body args).value ≡ (other args).value) × ((body args).cost ≡ (other args).cost))
+    → (all_turns body acc (rounds l x)).cost ≡ (all_turns other acc (rounds l x)).cost
+loop_cost l acc x body other same = by_rounds (rounds l x) (rounds_of l x)
+  where
+    by_rounds : (r : Result (List (List Seen)) Bad) → RoundsOf (beside_acc l) r → (all_turns body acc r).cost ≡ (all_turns other acc r).cost
+    by_rounds (Err b) a = refl
+    by_rounds (Ok rest) a = turns_cost body other (beside_acc l) (λ args e. same args (e ∙ binds l)) 0 acc rest a

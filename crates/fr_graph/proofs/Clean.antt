@@ -95,7 +95,7 @@ module _ (g : Graph) (p : Plan) (pr : Program) (plan : IsPlanOf pr p) (sources :
   f = erase t.kernels
 
   closed : IsClosed g everything
-  closed = record { input = λ m j a b c. tt; watch = λ m a b. tt }
+  closed = record { input = λ m j a b c. tt; watched = λ w a b env lv k kn. tt }
 
   abbrev old : Asked
   old = record { known = everything; cell = before; asks = asks_nothing }

@@ -31,7 +31,7 @@ use Rattle.fr_graph.proofs.Items.{items_carry, items_begin}
 
 module _ (g : Graph) (known : ℕ → Type 0) (p : Plan) (pr : Program) (plan : IsPlanOf pr p) (sources : List Now) (before : ℕ → Option Cell)
     (closed : IsClosed g known) (rules : SettledOn g known p.table sources before) (eras : ErasStandOn g known p)
-    (m : ℕ) (inputs : AllKnown known (g.inputs m)) (errs : Errs g known p.table before m (g.kind m) (g.inputs m)) (n : ℕ) (few : n ≤ 2001) where
+    (m : ℕ) (inputs : AllKnown known (g.inputs m)) (errs : Errs g known p before m (g.kind m) (g.inputs m)) (n : ℕ) (few : n ≤ 2001) where
   abbrev t : Kernels
   t = p.table
 

@@ -13,7 +13,6 @@ use Rattle.fr_core.specs.declared.core_form.Core.TheVariants as core
 use Rattle.fr_core.specs.declared.core_form.Core.TheVariants.{outs-Let, outs-If, outs-Apply, outs-Operator, outs-Handler, outs-Loop, outs-Feedback}
 use Rattle.fr_core.specs.declared.core_form.Operator.{Operator}
 use Rattle.fr_core.specs.declared.core_form.Operator.TheVariants as operator
-use Rattle.fr_core.specs.declared.core_form.Loop.{Loop}
 use Rattle.fr_core.specs.declared.kept.Key.TheVariants as key
 use Rattle.fr_core.specs.declared.kept.Kept.{Kept}
 use Rattle.fr_core.specs.declared.kept.Kept.TheVariants as kept
@@ -22,43 +21,27 @@ use Rattle.fr_core.specs.declared.lowered.Low.TheOpen.{Low-F}
 use Rattle.fr_core.specs.declared.program.Program.{Program}
 use Rattle.fr_meaning.specs.Words.{Seen, Env, Done, under, own, plain, part, on_ok, test_of}
 use Rattle.fr_meaning.specs.Cells.{Cell, child, under_key}
-use Rattle.fr_meaning.specs.States.{Line, gives, of_operator, of_handler, of_feedback, fed, base_of, refusal_in, no_call, state_now, beside, state_next, early_value}
-use Rattle.fr_meaning.specs.Evaluation.{World, world_of, Ev, Parts, parts, join_part, no_parts, chosen_by, Choice, switch_done, call_done, body_for, handler, body_with, rounds, all_turns, refusal_first, line_done, form_cell, behind_cell, layer, eval_to}
+use Rattle.fr_meaning.specs.States.{gives, of_operator, of_handler, of_feedback, fed, base_of, refusal_in, no_call, state_now, beside, state_next, early_value}
+use Rattle.fr_meaning.specs.Evaluation.{World, world_of, Ev, Parts, parts, join_part, no_parts, chosen_by, Choice, switch_done, call_done, body_for, handler, body_with, form_cell, behind_cell, layer, eval_to}
 use Rattle.fr_meaning.proofs.Levels.{evaluates}
 use Rattle.fr_kernel.specs.Kernels.{Kernels, slot_seen}
 use Rattle.fr_kernel.specs.Erasure.{erase, erase_step, kernel_expr}
-use Rattle.fr_graph.specs.Graph.{Part, steady, signal, Work, operates, handles, loops, runs, feeds, works, watch, Graph, part_value, part_values, kernel_run, kernel_call, IsClean, operator_early, work_line, is_plain, is_late}
+use Rattle.fr_graph.specs.Graph.{Part, steady, signal, Work, operates, handles, loops, runs, feeds, works, watch, Graph, part_value, part_values, kernel_call, IsClean, operator_early, work_line, is_plain, is_late}
 use Rattle.fr_graph.specs.Walk.{Plan, first, rest, Walk, AllPlaced, place_all, all_steady, steady_values, variable_part, slot_parts, low_body, place}
 use Rattle.fr_graph.specs.Wired.{IsNext, inputs_of, later_of, Either, Unless, WorkStands, AllStand, Chosen, SwitchStands, CallStands, ShapeStands, Wired, EraStands}
 use Rattle.fr_graph.specs.Keeps.{Asked, AllKeep, SwitchKeeps, CallKeeps, ShapeKeeps, Keeps, asks_nothing}
 use Rattle.fr_graph.specs.Known.{AllKnown, IsClosed, IsKnown, Have, IsWatched, SettledOn, ErasStandOn, latch}
 use Rattle.fr_graph.specs.Sound.{Sound, IsPlanOf, KernelsMean}
-use Rattle.fr_graph.specs.Front.{AnyOccurs, WorkOccurs, SwitchOccurs, CallOccurs, ShapeOccurs, Occurs, IsTaken, Latches, Errs}
+use Rattle.fr_graph.specs.Fails.{Fails}
+use Rattle.fr_graph.specs.Front.{AnyOccurs, WorkOccurs, SwitchOccurs, CallOccurs, ShapeOccurs, Occurs, IsTaken, Latches, ChoiceErrs, Errs}
 use Rattle.fr_graph.proofs.Parts.{have_at, have_append, have_length}
 use Rattle.fr_graph.proofs.Works.{stands_next, input_line, rule_on, inputs_on}
-use Rattle.fr_graph.proofs.Calls.{handler_clean, loop_clean, loop_value, none_left, none_right, none_under}
+use Rattle.fr_graph.proofs.Calls.{handler_clean, none_left, none_right, none_under}
+use Rattle.fr_graph.proofs.Good.{line_clean, line_parts, value_good}
 use Rattle.fr_graph.proofs.Inside.{erase-opens, SoundShape, sound_shape, AllSound, outer_sound, body_sound, all_length, bodies_match, low_sound}
 use Rattle.fr_graph.proofs.Trees.{late_part, late_next, late_there}
 use Rattle.fr_graph.proofs.Values.{AgreesAt, values_on, all_on, slots_on, kernel_means}
-
--- a line of an evaluation that errs nowhere is clean
-line_clean : (ps : Parts) (l : Line) → (line_done ps l).first ≡ None → IsClean l
-line_clean ps l h =
-    let a = none_right ps.first (option_or l.inner (option_or (own l.value) (refusal_first l.refusal))) h in
-    let b = none_right l.inner (option_or (own l.value) (refusal_first l.refusal)) a in
-    record {
-      value = none_left (own l.value) (refusal_first l.refusal) b;
-      inner = none_left l.inner (option_or (own l.value) (refusal_first l.refusal)) a;
-      refusal = no_refusal l.refusal (none_right (own l.value) (refusal_first l.refusal) b);
-    }
-  where
-    no_refusal : (r : Option Bad) → refusal_first r ≡ None → r ≡ None
-    no_refusal None h = refl
-    no_refusal (Some b) h = cc
-
--- so is that of its parts
-line_parts : (ps : Parts) (l : Line) → (line_done ps l).first ≡ None → ps.first ≡ None
-line_parts ps l h = none_left ps.first (option_or l.inner (option_or (own l.value) (refusal_first l.refusal))) h
+use Rattle.fr_graph.proofs.Steady.{have_nothing, IsBuilt, loop_line, built_on}
 
 beside_early : (v : Seen) (r : Result Cell Bad) → IsClean (beside v r) → IsClean (gives v None)
 beside_early v (Err b) c = record { value = c.value; inner = refl; refusal = refl }
@@ -72,40 +55,6 @@ early_clean operator.MergeE c xs h = h
 early_clean operator.Hold c xs h = h
 early_clean operator.Changes c xs h = h
 early_clean operator.OnceE c xs h = h
-
--- an evaluation that errs nowhere has a value
-
-switch_good : (ev : Ev) (env : Env) (k : Kept) (t : Done) (r : Result Choice Bad) → (switch_done ev env k t r).first ≡ None → own (switch_done ev env k t r).value ≡ None
-switch_good ev env k t (Err x) h = none_right _ _ h
-switch_good ev env k t (Ok c) h = none_right _ _ h
-
-call_good : (ev : Ev) (k : Kept) (n : ℕ) (ps : Parts) (o : Option Core) → (call_done ev k n ps o).first ≡ None → own (call_done ev k n ps o).value ≡ None
-call_good ev k n ps None h = none_right _ _ h
-call_good ev k n ps (Some body) h = none_right _ _ h
-
-layer_good : (w : World) (ev : Ev) (env : Env) (k : Kept) (l : Core-F Core) → (layer w ev env k l).first ≡ None → own (layer w ev env k l).value ≡ None
-layer_good w ev env k (Core-F.Lit v) h = refl
-layer_good w ev env k (Core-F.Var x) h = h
-layer_good w ev env k (Core-F.Source s) h = h
-layer_good w ev env k (Core-F.Let es body) h = none_right _ _ h
-layer_good w ev env k (Core-F.If test a b) h = switch_good ev env k (ev test env (child k 0)) _ h
-layer_good w ev env k (Core-F.Apply f es) h = call_good ev k (length es) (parts ev env k 0 es) _ h
-layer_good w ev env k (Core-F.Operator o es) h =
-    let ps = parts ev env (behind_cell (of_operator o) k) 0 es in
-    (line_clean ps (state_now (of_operator o) (form_cell (of_operator o) k) ps.values no_call) h).value
-layer_good w ev env k (Core-F.Handler g es body) h =
-    let ps = parts ev env (behind_cell (of_handler g) k) 0 es in
-    (line_clean ps (state_now (of_handler g) (form_cell (of_handler g) k) ps.values (handler ev env (length es) body)) h).value
-layer_good w ev env k (Core-F.Loop l es body) h = none_right _ _ h
-layer_good w ev env k (Core-F.Feedback init body) h =
-    let d = ev init env (child (behind_cell of_feedback k) 0) in
-    let b = ev body (env ++ fed (form_cell of_feedback k) d.value ∷ []) (child (behind_cell of_feedback k) 1) in
-    (line_clean (join_part 0 d (join_part 1 b no_parts)) (state_now of_feedback (form_cell of_feedback k) (d.value ∷ b.value ∷ []) no_call) h).value
-
-value_good : (n : ℕ) (w : World) (e : Core) (env : Env) (k : Kept) → (eval_to n w e env k).first ≡ None → own (eval_to n w e env k).value ≡ None
-unfolding eval_to
-value_good zero w e env k h = absurd cc
-value_good (suc n) w e env k h = layer_good w (eval_to n w) env k (out-Core e) h
 
 -- what a clean late line takes isn't refused
 
@@ -135,7 +84,7 @@ same_part a b e = cc
 
 module _ (g : Graph) (known : ℕ → Type 0) (p : Plan) (pr : Program) (plan : IsPlanOf pr p) (sources : List Now) (before : ℕ → Option Cell)
     (closed : IsClosed g known) (settled : SettledOn g known p.table sources before) (eras : ErasStandOn g known p) (means : KernelsMean p pr sources)
-    (m : ℕ) (inputs : AllKnown known (g.inputs m)) (errs : Errs g known p.table before m (g.kind m) (g.inputs m)) where
+    (m : ℕ) (inputs : AllKnown known (g.inputs m)) (errs : Errs g known p before m (g.kind m) (g.inputs m)) where
   abbrev t : Kernels
   t = p.table
 
@@ -162,7 +111,7 @@ module _ (g : Graph) (known : ℕ → Type 0) (p : Plan) (pr : Program) (plan : 
   node_errs x n wk ps us ms c later is st have cell takes clean =
       let kind : g.kind m ≡ works wk = ap g.kind is ∙ st.kind in
       let ins : g.inputs m ≡ inputs_of wk ps = ap g.inputs is ∙ st.inputs in
-      let here = subst (λ j. Errs g known t before m j (inputs_of wk ps)) kind (subst (λ l. Errs g known t before m (g.kind m) l) ins errs) in
+      let here = subst (λ j. Errs g known p before m j (inputs_of wk ps)) kind (subst (λ l. Errs g known p before m (g.kind m) l) ins errs) in
       let line : work_line t (g.level m) wk (before m) (part_values g (inputs_of wk ps)) ≡ work_line t n wk c us
       = ap (λ j. work_line t j wk (before m) (part_values g (inputs_of wk ps))) (ap g.level is ∙ st.level)
       ∙ ap (λ o. work_line t n wk o (part_values g (inputs_of wk ps))) (ap before is ∙ cell)
@@ -233,6 +182,10 @@ module _ (g : Graph) (known : ℕ → Type 0) (p : Plan) (pr : Program) (plan : 
     opens : (c : Core) (l : Core-F Core) (k : Kept) → out-Core c ≡ l → (eval_to (suc n) w c vs k).first ≡ None → (layer w ev vs k l).first ≡ None
     opens c l k h e = ap (λ l. (layer w ev vs k l).first) (sym h) ∙ sym (ap (λ d. d.first) (evaluates n w c vs k)) ∙ e
 
+    -- an expression here whose evaluation errs nowhere is built without failing
+    built : (e : Low) (ms : List ℕ) (k : Kept) → Sound t (length env) e → (ev (f e) vs k).first ≡ None → IsBuilt g (walk e env ms) (Fails p n e env ms) (ev (f e) vs k)
+    built e ms k s h = built_on g p pr plan sources means n below e env vs ms k s (have_nothing g known env vs en) h
+
     -- the choice of a switch errs
 
     chosen_front : (a b : Low) (y : ℕ) (ms : List ℕ) (k : Kept) (d : Done) (o : Result Bool Bad) → Sound t (length env) a → Sound t (length env) b
@@ -254,19 +207,25 @@ module _ (g : Graph) (known : ℕ → Type 0) (p : Plan) (pr : Program) (plan : 
     era_front a b c k d true sa sb level era kp oc h = chosen_front a b (suc c) (g.members (suc c)) k d (Ok true) sa sb (subst (λ j. Wired g p (suc c) j a env (g.members (suc c))) level era.wired) kp oc h
     era_front a b c k d false sa sb level era kp oc h = chosen_front a b (suc c) (g.members (suc c)) k d (Ok false) sa sb (subst (λ j. Wired g p (suc c) j b env (g.members (suc c))) level era.wired) kp oc h
 
-    -- a watch whose test can't be told
-    watch_front : (a b : Low) (i : ℕ) (ms : List ℕ) (k : Kept) (d : Done) → (IsKnown known (signal i) → part_value g (signal i) ≡ d.value) → m ≡ first ms → IsNext g x n (watch a b env) (signal i ∷ []) None ms
+    -- a watch whose test can't be told, or whose choice fails to be built
+    watch_front : (a b : Low) (i : ℕ) (ms : List ℕ) (k : Kept) (d : Done) → Sound t (length env) a → Sound t (length env) b → (IsKnown known (signal i) → part_value g (signal i) ≡ d.value)
+        → m ≡ first ms → IsNext g x n (watch a b env) (signal i ∷ []) None ms
         → (switch_done ev vs k d (on_ok (chosen_by (f a) (f b)) (test_of d.value))).first ≡ None → ⊥
-    watch_front a b i ms k d r is st h =
+    watch_front a b i ms k d sa sb r is st h =
         let kind : g.kind m ≡ watch a b env = ap g.kind is ∙ st.kind in
         let ins : g.inputs m ≡ signal i ∷ [] = ap g.inputs is ∙ st.inputs in
-        let here = subst (λ j. Errs g known t before m j (signal i ∷ [])) kind (subst (λ l. Errs g known t before m (g.kind m) l) ins errs) in
-        by_test (test_of d.value) (ap test_of (r (subst (AllKnown known) ins inputs).0)) here h
+        let here = subst (λ j. Errs g known p before m j (signal i ∷ [])) kind (subst (λ l. Errs g known p before m (g.kind m) l) ins errs) in
+        let fails = subst (λ j. ChoiceErrs p j a b env (g.value i)) (ap g.level is ∙ st.level) here in
+        by_test (test_of d.value) (ap test_of (r (subst (AllKnown known) ins inputs).0)) fails h
       where
-        by_test : (o : Result Bool Bad) → test_of (part_value g (signal i)) ≡ o → ((holds : Bool) → test_of (part_value g (signal i)) ≡ Ok holds → ⊥)
-            → (switch_done ev vs k d (on_ok (chosen_by (f a) (f b)) o)).first ≡ None → ⊥
-        by_test (Err bad) e here h = let last = none_right (under 0 d.first) (own (Err bad)) h in absurd cc
-        by_test (Ok holds) e here h = here holds e
+        by_test : (o : Result Bool Bad) → test_of (g.value i) ≡ o → ChoiceErrs p n a b env (g.value i) → (switch_done ev vs k d (on_ok (chosen_by (f a) (f b)) o)).first ≡ None → ⊥
+        by_test (Err bad) e fails h = let last = none_right (under 0 d.first) (own (Err bad)) h in absurd cc
+        by_test (Ok true) e fails h =
+            let fail = fails true e in
+            (built a fail.0 (under_key (key.Test true) (child k 1)) sa (none_under 1 _ (none_right (under 0 d.first) _ (none_left _ _ h)))).builds fail.1
+        by_test (Ok false) e fails h =
+            let fail = fails false e in
+            (built b fail.0 (under_key (key.Test false) (child k 1)) sb (none_under 2 _ (none_right (under 0 d.first) _ (none_left _ _ h)))).builds fail.1
 
     switch_front : (a b : Low) (h : Part) (ms : List ℕ) (k : Kept) (d : Done) → Sound t (length env) a → Sound t (length env) b → (IsKnown known h → part_value g h ≡ d.value)
         → SwitchStands g x n Stands a b env h ms → SwitchKeeps g q Trees a b env h ms (child k 1) → SwitchOccurs g known m Here a b env h ms
@@ -275,7 +234,7 @@ module _ (g : Graph) (known : ℕ → Type 0) (p : Plan) (pr : Program) (plan : 
         chosen_front a b x ms k d (test_of v) sa sb st kp oc (ap (λ u. (switch_done ev vs k d (on_ok (chosen_by (f a) (f b)) (test_of u))).first) (r tt) ∙ none)
     switch_front a b (signal i) ms k d sa sb r st kp oc none =
         elim oc [
-          | inl is ↦ watch_front a b i ms k d r is st.watch none
+          | inl is ↦ watch_front a b i ms k d sa sb r is st.watch none
           | inr o ↦
               let c = first ms in
               let rule : IsWatched g c (signal i) = rule_on g known t sources before closed settled x n (watch a b env) (signal i ∷ []) None ms o.0 st.watch in
@@ -418,22 +377,10 @@ module _ (g : Graph) (known : ℕ → Type 0) (p : Plan) (pr : Program) (plan : 
           | inl c ↦ any_front es 0 ms k sound st.0 kp c (none_left ps.first _ (none_left _ _ none))
           | inr c ↦ plain_errs x n (loops l id.0) (qs.parts ++ slot_parts p env ss) (ps.values ++ others) qs.left refl (λ c. refl) st.2 c
               (have_append g known qs.parts ps.values (slot_parts p env ss) others have slots)
-              (loop_line l id.0 ps.values others body count
+              (loop_line t n l id.0 ps.values others (body_with ev vs body) count
               (λ args e. let same = kernel_means g known p pr plan sources before closed settled eras means n few (agrees_at n below) x env vs en n id.0 (loop_binds l) ss args kept.Nothing below s.fits e in (sym same.value, λ e. same.first ∙ e))
-              (none_right _ _ none) turns_none)
+              (none_right _ _ none) turns_none).0
         ]
-      where
-        loop_line : (l : Loop) (id : ℕ) (xs others : List Seen) (body : Core) → length xs ≡ 2
-            → ((args : List Seen) → length args ≡ loop_binds l → ((body_with ev vs body args).value ≡ (kernel_run t n id others args).value) × ((body_with ev vs body args).first ≡ None → (kernel_run t n id others args).first ≡ None))
-            → (let ts = all_turns (body_with ev vs body) (part xs 0) (rounds l (part xs 1)) in own ts.value ≡ None → ts.first ≡ None → IsClean (work_line t n (loops l id) None (xs ++ others)))
-        loop_line l id [] others body e same good none = absurd (omega (arith, e))
-        loop_line l id (a ∷ []) others body e same good none = absurd (omega (arith, e))
-        loop_line l id (a ∷ b ∷ []) others body e same good none = record {
-          value = ap own (sym (loop_value l a b (body_with ev vs body) (kernel_run t n id others) (λ args h. (same args h).0))) ∙ good;
-          inner = loop_clean l a b (body_with ev vs body) (kernel_run t n id others) same none;
-          refusal = refl;
-        }
-        loop_line l id (a ∷ b ∷ d ∷ xs) others body e same good none = absurd (omega (arith, e))
     shape_front (Low-F.Feedback init body) ms k s st kp oc h =
         let i = walk init env ms in
         let inner = behind_cell of_feedback k in

@@ -34,7 +34,7 @@ module _ (g : Graph) (p : Plan) (pr : Program) (plan : IsPlanOf pr p) (sources :
   means = kernels_mean pr p sources plan
 
   closed : IsClosed g everything
-  closed = record { input = λ m j a b c. tt; watch = λ m a b. tt }
+  closed = record { input = λ m j a b c. tt; watched = λ w a b env lv k kn. tt }
 
   abbrev t : Kernels
   t = p.table

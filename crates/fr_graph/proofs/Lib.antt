@@ -1,14 +1,18 @@
-mod Parts
-mod Works
-mod Calls
-mod Inside
-mod Means
-mod Values
+pub mod Parts
+pub mod Works
+pub mod Calls
+mod Good
+pub mod Inside
+pub mod Means
+pub mod Values
 mod Cells
-mod Trees
+pub mod Trees
 mod Clean
 mod Carry
+mod Steady
 mod Front
-mod Items
-mod Errors
+pub mod Items
+pub mod Errors
+mod Building
+mod Valued
 mod Examples

@@ -28,5 +28,5 @@ kernels_mean pr p sources plan n i k few there vs args near own tree =
     ∙ ap (λ fs. eval_to n (world fs) (numbered s k.expr) (values_of s sources vs args) kept.Nothing) plan.table in
     let there : AreAlike code (eval_to n (world_of pr sources) k.expr (vs ++ args) tree)
     = subst (λ m. AreAlike (eval_to m (world pr.functions) (numbered s k.expr) (values_of s sources vs args) kept.Nothing) (eval_to m (world_of pr sources) k.expr (vs ++ args) tree)) levels
-    (record { value = sym same.value; first = sym same.first }) in
+    (record { value = sym same.value; cost = sym same.cost; first = sym same.first }) in
     subst (λ d. AreAlike d (eval_to n (world_of pr sources) k.expr (vs ++ args) tree)) (sym run) there

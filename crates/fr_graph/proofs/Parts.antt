@@ -6,7 +6,7 @@ use Rattle.fr_graph.specs.Graph.{Part, steady, signal, Graph, part_value, part_v
 use Rattle.fr_graph.specs.Walk.{all_steady, steady_values, variable_part}
 use Rattle.fr_graph.specs.Known.{Reads, IsKnown, AllKnown, Have}
 
-both_true : (a b : Bool) → a && b ≡ true → (a ≡ true) × (b ≡ true)
+pub both_true : (a b : Bool) → a && b ≡ true → (a ≡ true) × (b ≡ true)
 both_true true true h = (refl, refl)
 both_true true false h = cc
 both_true false b h = cc

@@ -141,7 +141,7 @@ module _ (g : Graph) (known : ℕ → Type 0) (p : Plan) (pr : Program) (plan : 
         subst (λ u. Agrees (place_chosen walk a b env ms (test_of v)) (switch_done ev vs k d (on_ok (chosen_by (f a) (f b)) (test_of u)))) (r tt) (chosen_on a b ms k d (test_of v) sa sb st kp)
     switch_on a b (signal m) ms k d sa sb r st kp = λ kr.
         let c = first ms in
-        let kw : known c = closed.watch c st.watch.live (subst known (sym st.result) kr) in
+        let kw : known c = closed.watched c a b env st.watch.live st.watch.kind (subst known (sym st.result) kr) in
         let rule : IsWatched g c (signal m) = rule_on g known t sources before closed settled x n (watch a b env) (signal m ∷ []) None ms kw st.watch in
         let km : known m = (inputs_on g known t sources before closed settled x n (watch a b env) (signal m ∷ []) None ms kw st.watch).0 in
         let tested : test_of d.value ≡ Ok rule.holds = ap test_of (sym (r km)) ∙ rule.test in

@@ -13,12 +13,7 @@ use Rattle.fr_graph.specs.Graph.{Part, Work, operates, handles, loops, runs, fee
 use Rattle.fr_graph.specs.Walk.{Plan, first, by_value, by_next, all_steady, steady_values, place_work}
 use Rattle.fr_graph.specs.Wired.{IsNext, inputs_of, later_of, Either, WorkStands}
 use Rattle.fr_graph.specs.Known.{AllKnown, Reads, IsClosed, IsKnown, Have, IsWorked, Rule, SettledOn}
-use Rattle.fr_graph.proofs.Parts.{read_known, have_values, have_steady}
-
-both_true : (a b : Bool) → a && b ≡ true → (a ≡ true) × (b ≡ true)
-both_true true true h = (refl, refl)
-both_true true false h = cc
-both_true false b h = cc
+use Rattle.fr_graph.proofs.Parts.{both_true, read_known, have_values, have_steady}
 
 pub beside_value : (v : Seen) (r : Result Cell Bad) → (beside v r).value ≡ v
 beside_value v (Err b) = refl
@@ -45,7 +40,7 @@ prompt_line operator.Changes c xs e = refl
 prompt_line operator.OnceE c xs e = refl
 
 -- a plain work has no cell
-plain_any : (t : Kernels) (n : ℕ) (w : Work) (c d : Option Cell) (xs : List Seen) → is_plain w ≡ true → work_line t n w c xs ≡ work_line t n w d xs
+pub plain_any : (t : Kernels) (n : ℕ) (w : Work) (c d : Option Cell) (xs : List Seen) → is_plain w ≡ true → work_line t n w c xs ≡ work_line t n w d xs
 plain_any t n (operates (operator.Prim p)) c d xs h = refl
 plain_any t n (operates operator.MergeE) c d xs h = absurd (false≢true h)
 plain_any t n (operates operator.Hold) c d xs h = absurd (false≢true h)

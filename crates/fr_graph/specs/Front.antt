@@ -1,17 +1,17 @@
 -- Where a node stands in a walk while an instant is under way, and what it is for a node to err.
-use Rattle.std.specs.Prelude.{◌≡◌, ◌⊎◌, ℕ, zero, suc, Bool, ◌&&◌, List, [], ◌∷◌, ◌++◌, length, slice_get, Option, None, Some, Ok, Result, Err, true}
+use Rattle.std.specs.Prelude.{◌≡◌, ◌⊎◌, ℕ, zero, suc, Bool, ◌&&◌, if◌then◌else◌, List, [], ◌∷◌, ◌++◌, length, slice_get, Option, None, Some, Ok, Result, Err, true}
 use Rattle.fr_value.specs.declared.now.Bad.{Bad}
 use Rattle.fr_core.specs.declared.lowered.Low.{Low, out-Low}
 use Rattle.fr_core.specs.declared.lowered.Low.TheOpen.{Low-F}
 use Rattle.fr_core.specs.declared.lowered.LowItem.{LowItem}
 use Rattle.fr_core.specs.declared.lowered.LowItem.TheVariants as low_item
-use Rattle.fr_meaning.specs.Words.{test_of}
+use Rattle.fr_meaning.specs.Words.{Seen, test_of}
 use Rattle.fr_meaning.specs.Cells.{Cell}
-use Rattle.fr_kernel.specs.Kernels.{Kernels}
 use Rattle.fr_graph.specs.Graph.{Part, steady, signal, Work, operates, handles, loops, runs, Kind, works, watch, Graph, part_value, part_values, IsClean, work_line, is_plain, is_late}
 use Rattle.fr_graph.specs.Walk.{Plan, first, rest, Walk, AllPlaced, place_all, all_steady, slot_parts, low_body, place}
 use Rattle.fr_graph.specs.Wired.{Standing, Either, Chosen}
 use Rattle.fr_graph.specs.Known.{IsKnown, latch}
+use Rattle.fr_graph.specs.Fails.{Fails}
 
 -- the node stands among some expressions
 abbrev pub AnyOccurs : Walk → Standing → List Part → List Low → List ℕ → Type 0
@@ -69,8 +69,12 @@ IsTaken (Err b) = ⊥
 abbrev pub Latches : Graph → (ℕ → Type 0) → ℕ → Work → Type 0
 Latches g known m w = is_late w ≡ true → (last : Part) → g.later m ≡ Some last → IsKnown known last → IsTaken (latch w (part_value g last))
 
--- a node of a kind errs on the values that its inputs have: its line isn't clean, its cell refuses what it is to take, or a watch's test can't be told
-abbrev pub Errs : Graph → (ℕ → Type 0) → Kernels → (ℕ → Option Cell) → ℕ → Kind → List Part → Type 0
-Errs g known t before m (works w) ins = IsClean (work_line t (g.level m) w (before m) (part_values g ins)) → Latches g known m w → ⊥
-Errs g known t before m (watch a b env) (test ∷ []) = (holds : Bool) → test_of (part_value g test) ≡ Ok holds → ⊥
-Errs g known t before m k ins = ⊥
+-- whatever the value of a test tells, the building of what it chooses fails, where so many levels are left; so it is where it can't be told
+abbrev pub ChoiceErrs : Plan → ℕ → Low → Low → List Part → Seen → Type 0
+ChoiceErrs p n a b env v = (holds : Bool) → test_of v ≡ Ok holds → (ms : List ℕ) × Fails p n (if holds then a else b) env ms
+
+-- a node of a kind errs on the values that its inputs have: its line isn't clean, its cell refuses what it is to take, or a watch's test can't be told or the building of its choice fails
+abbrev pub Errs : Graph → (ℕ → Type 0) → Plan → (ℕ → Option Cell) → ℕ → Kind → List Part → Type 0
+Errs g known p before m (works w) ins = IsClean (work_line p.table (g.level m) w (before m) (part_values g ins)) → Latches g known m w → ⊥
+Errs g known p before m (watch a b env) (test ∷ []) = ChoiceErrs p (g.level m) a b env (part_value g test)
+Errs g known p before m k ins = ⊥

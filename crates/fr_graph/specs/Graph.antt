@@ -1,5 +1,5 @@
 -- The graph of signals, as functions of a node's number.
-use Rattle.std.specs.Prelude.{◌≡◌, ℕ, suc, Bool, true, false, List, [], ◌++◌, map, take, drop, slice_get, Option, Some, None, Err}
+use Rattle.std.specs.Prelude.{◌≡◌, ℕ, ◌+◌, suc, Bool, true, false, List, [], ◌++◌, map, take, drop, slice_get, Option, Some, None, Err}
 use Rattle.fr_value.specs.declared.now.Bad.TheVariants.{Deep}
 use Rattle.fr_core.specs.declared.core_form.Operator.{Operator}
 use Rattle.fr_core.specs.declared.core_form.Operator.TheVariants as operator
@@ -66,9 +66,9 @@ run_of t n (Some k) slots args = eval_to n (world_at t []) (numbered (scheme_for
 abbrev pub kernel_run : Kernels → ℕ → ℕ → List Seen → List Seen → Done
 kernel_run t n id slots args = run_of t n (slice_get t.kernels id) slots args
 
--- the call of a handler by its kernel
+-- the call of a handler by its kernel, which costs 1
 abbrev pub kernel_call : Kernels → ℕ → ℕ → List Seen → Call
-kernel_call t n id slots args = let d = kernel_run t n id slots args in record { value = d.value; cost = d.cost; first = d.first }
+kernel_call t n id slots args = let d = kernel_run t n id slots args in record { value = d.value; cost = d.cost + 1; first = d.first }
 
 -- a line of a value that an evaluation gave
 abbrev pub turns_line : Turns → Line

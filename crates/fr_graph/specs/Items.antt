@@ -16,6 +16,7 @@ use Rattle.fr_graph.specs.Wired.{Standing, Wired}
 use Rattle.fr_graph.specs.Keeps.{Keeping, Keeps, everything, HasKey}
 use Rattle.fr_graph.specs.Known.{IsClosed, AllKnown, Have, SettledOn, ErasStandOn, HasEnded}
 use Rattle.fr_graph.specs.Sound.{Sound, IsPlanOf}
+use Rattle.fr_graph.specs.Fails.{ItemsFail, Fails}
 use Rattle.fr_graph.specs.Front.{ItemsOccur, Occurs, Errs}
 
 -- what stands for the shows among items, and the members that are left
@@ -94,4 +95,8 @@ pub record IsUnderWay (g : Graph) (known : ℕ → Type 0) (p : Plan) (is : List
 pub record ErrsThere (g : Graph) (known : ℕ → Type 0) (p : Plan) (is : List LowItem) (ms : List ℕ) (before : ℕ → Option Cell) (m : ℕ) : Type 0 where
   pub occurs : ItemsOccur (body_walk p) (Occurs g p known m 2000) [] is ms
   pub inputs : AllKnown known (g.inputs m)
-  pub errs : Errs g known p.table before m (g.kind m) (g.inputs m)
+  pub errs : Errs g known p before m (g.kind m) (g.inputs m)
+
+-- the building of a program's items fails, at whatever numbers their nodes are to have
+abbrev pub BodyFails : Plan → List LowItem → List ℕ → Type 0
+BodyFails p is ms = ItemsFail (body_walk p) (Fails p 2000) [] is ms

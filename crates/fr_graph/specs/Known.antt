@@ -19,10 +19,10 @@ Reads j [] = ⊥
 Reads j (steady v ∷ ps) = Reads j ps
 Reads j (signal m ∷ ps) = (m ≡ j) ⊎ Reads j ps
 
--- what a known node stands on is known
+-- what a known node stands on is known: its inputs, and the watch of a result
 pub record IsClosed (g : Graph) (known : ℕ → Type 0) : Type 0 where
   pub input : (m j : ℕ) → known m → g.live m ≡ true → Reads j (g.inputs m) → known j
-  pub watch : (w : ℕ) → g.live w ≡ true → known (g.result_of w) → known w
+  pub watched : (w : ℕ) (a b : Low) (env : List Part) → g.live w ≡ true → g.kind w ≡ watch a b env → known (g.result_of w) → known w
 
 -- a part whose value is known
 abbrev pub IsKnown : (ℕ → Type 0) → Part → Type 0

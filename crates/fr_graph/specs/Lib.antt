@@ -1,6 +1,7 @@
 pub mod Graph
 pub mod Walk
 pub mod Wired
+pub mod Fails
 pub mod Keeps
 pub mod Known
 pub mod Sound

@@ -40,9 +40,10 @@ pub record IsPlanOf (pr : Program) (p : Plan) : Type 0 where
   pub slots : (i : ℕ) (k : Kernel) → slice_get p.table.kernels i ≡ Some k → k.slots ≡ slots_of k.first k.expr
   pub bodies : (i : ℕ) (f : LowFunction) → slice_get p.functions i ≡ Some f → Sound p.table f.params f.body
 
--- two evaluations give the same value and the same first error
+-- two evaluations give the same value at the same cost, and the same first error
 pub record AreAlike (a b : Done) : Type 0 where
   pub value : a.value ≡ b.value
+  pub cost : a.cost ≡ b.cost
   pub first : a.first ≡ b.first
 
 -- the run of a kernel gives what the expression does that it was made from, over the variables and sources that its slots stand for and any kept tree

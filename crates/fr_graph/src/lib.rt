@@ -3,4 +3,7 @@
 
 mod laws;
 
-pub use laws::{errors_are_those_of_evaluating_afresh, instants_are_afresh};
+pub use laws::{
+    errors_are_those_of_evaluating_afresh, failing_to_build_is_an_error, instants_are_afresh,
+    what_is_built_has_a_value,
+};
