@@ -1,0 +1,9 @@
+pub mod Frame
+pub mod Stay
+pub mod Way
+pub mod Steps
+pub mod Turns
+pub mod Order
+pub mod Ends
+pub mod Fronts
+pub mod Calm
