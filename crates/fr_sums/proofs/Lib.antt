@@ -1,0 +1,6 @@
+pub mod Totals
+pub mod Eras
+pub mod Counts
+pub mod Costs
+pub mod Bodies
+mod Examples

@@ -1,0 +1,4 @@
+pub mod Sites
+pub mod Along
+pub mod Members
+pub mod Spent
