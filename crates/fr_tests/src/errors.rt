@@ -1,6 +1,6 @@
 ghost use Rattle.std.specs.Prelude.{◌≤◌, IfOk, IfSome};
 ghost use Rattle.fr_core.specs.WellFormed.{IsWellFormed};
-ghost use Rattle.fr_meaning.specs.Afresh.{greatest_time};
+ghost use Rattle.fr_core.specs.Sets.{greatest_time};
 ghost use Rattle.fr_afresh.specs.Stands.{evaluated_program};
 
 use crate::calls::{Call, Lines, is_told, wrong_line};
