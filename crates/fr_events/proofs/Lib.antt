@@ -1,0 +1,5 @@
+pub mod Early
+pub mod Outcomes
+pub mod Calls
+pub mod Begins
+pub mod Latches
