@@ -49,7 +49,7 @@ beside_cost v (Err b) = refl
 beside_cost v (Ok c) = refl
 
 -- an operator's line costs the same before its cell takes its last part's value
-operator_cost : (t : Kernels) (n : ℕ) (o : Operator) (c : Option Cell) (xs : List Seen) → (work_line t n (operates o) c xs).cost ≡ (state_now (of_operator o) c xs no_call).cost
+pub operator_cost : (t : Kernels) (n : ℕ) (o : Operator) (c : Option Cell) (xs : List Seen) → (work_line t n (operates o) c xs).cost ≡ (state_now (of_operator o) c xs no_call).cost
 operator_cost t n operator.Delay c xs = sym (beside_cost (early_value (of_operator operator.Delay) c xs) (state_next (of_operator operator.Delay) xs))
 operator_cost t n operator.DelayE c xs = sym (beside_cost (early_value (of_operator operator.DelayE) c xs) (state_next (of_operator operator.DelayE) xs))
 operator_cost t n (operator.Prim p) c xs = refl

@@ -3,4 +3,5 @@ pub mod Eras
 pub mod Counts
 pub mod Costs
 pub mod Bodies
+pub mod Builds
 mod Examples

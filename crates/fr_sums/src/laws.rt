@@ -1,4 +1,4 @@
-ghost use Rattle.std.specs.Prelude.{◌≡◌, ◌≤◌, ℕ, Bool, true, List, length, Option};
+ghost use Rattle.std.specs.Prelude.{◌≡◌, ◌≤◌, ℕ, Bool, true, List, [], length, Option};
 ghost use Rattle.fr_value.specs.declared.now.Now.{Now};
 ghost use Rattle.fr_core.specs.declared.kept.Kept.{Kept};
 ghost use Rattle.fr_core.specs.declared.kept.Kept.TheVariants as kept;
@@ -9,10 +9,11 @@ ghost use Rattle.fr_meaning.specs.Cells.{Cell};
 ghost use Rattle.fr_graph.specs.Graph.{Graph};
 ghost use Rattle.fr_graph.specs.Walk.{Plan};
 ghost use Rattle.fr_graph.specs.Goes.{Goes, IsEmpty};
-ghost use Rattle.fr_graph.specs.Items.{AreLowered, HasNodes, IsSettled, IsUnderWay, StandsForTree};
+ghost use Rattle.fr_graph.specs.Items.{AreLowered, body_walk, HasNodes, IsSettled, IsUnderWay, StandsForTree};
 ghost use Rattle.fr_sums.specs.Sites.{Site, body_sites};
+ghost use Rattle.fr_sums.specs.Along.{add_items};
 ghost use Rattle.fr_sums.specs.Members.{sum_live, site_of, AreMembers, HasProgramEra};
-ghost use Rattle.fr_sums.specs.Spent.{setting_of, Paid, fuel_spent, PaysAtMost, PaysAll, PaysWhatIsKnown};
+ghost use Rattle.fr_sums.specs.Spent.{setting_of, built, Paid, fuel_spent, PaysAtMost, PaysAll, PaysWhatIsKnown};
 
 /// The live nodes of a graph at the end of an instant are, kind by kind, the sites that evaluating the program's body
 /// afresh has: at the first instant over nothing kept, and at each further one over every tree for which the graph stood
@@ -53,4 +54,11 @@ pub fn spending_under_way_is_within_cost()
     ensures further { (was g : Graph) (known : ℕ → Bool) (pr : Program) (p : Plan) (is : List LowItem) (ms firsts : List ℕ) (bound : ℕ) (sources : List Now) (before : ℕ → Option Cell) (q : Paid) (k : Kept)
         → AreLowered pr p is → Goes was g before → HasNodes was p is ms → IsUnderWay g (λ m. known m ≡ true) p is ms sources before → StandsForTree was p is ms k → AreMembers g bound → HasProgramEra g p is firsts ms → PaysWhatIsKnown g known p before q
         → fuel_spent g p q bound is ms ≤ (body pr sources k).cost }
+{}
+
+/// Building a program's nodes costs no more than evaluating its body afresh, whatever was kept and whatever the sources
+/// hold.
+pub fn building_is_within_cost()
+    ensures within { (pr : Program) (p : Plan) (is : List LowItem) (ms : List ℕ) (sources : List Now) (k : Kept)
+        → AreLowered pr p is → add_items (body_walk p) (built p 2000) [] is ms ≤ (body pr sources k).cost }
 {}

@@ -4,4 +4,7 @@
 
 mod laws;
 
-pub use laws::{live_nodes_are_sites, spending_is_within_cost, spending_under_way_is_within_cost};
+pub use laws::{
+    building_is_within_cost, live_nodes_are_sites, spending_is_within_cost,
+    spending_under_way_is_within_cost,
+};
