@@ -1,6 +1,6 @@
 //! Rows of tables: a call, the text that it is made on, and what is told of the answer.
 use crate::told::Told;
-use crate::{data, kernels, names, programs, purity, scripts};
+use crate::{data, kernels, lowering, names, programs, purity, scripts};
 use std::alloc::Global;
 
 /// What is called on the text of a row.
@@ -30,6 +30,8 @@ pub(crate) enum Call {
     Core,
     /// `core_text` of a shown expression behind some names.
     Shown,
+    /// `plain` and `lower` of a program.
+    Lowered,
     /// `classify` a program.
     Classes,
     /// `is_pure` and `is_fit` of a shown expression behind some names.
@@ -55,6 +57,7 @@ fn tell(alloc: Global, out: &mut Told, call: Call, text: &[u8]) {
         Call::Symbol => data::tell_symbol(out, text),
         Call::Same => data::tell_same(alloc, out, text),
         Call::Puts(sources) => scripts::tell_puts(alloc, out, sources),
+        Call::Lowered => lowering::tell_lowered(alloc, out, text),
         Call::Meaning(steps, name) => names::tell_meaning(alloc, out, text, steps, name),
         Call::Datum | Call::Measures | Call::Made | Call::Applied | Call::Outline => {
             data::tell_one(alloc, out, call, text);
@@ -121,6 +124,7 @@ const TABLES: &[(Call, Lines)] = &[
     (Call::Shown, programs::EXPRESSIONS),
     (Call::Classes, purity::CLASSES),
     (Call::Fitness, purity::FITNESS),
+    (Call::Lowered, lowering::LOWERED),
 ];
 
 #[test]

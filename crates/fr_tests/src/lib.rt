@@ -4,6 +4,8 @@
 #[cfg(test)]
 mod calls;
 #[cfg(test)]
+mod chains;
+#[cfg(test)]
 mod data;
 #[cfg(test)]
 mod errors;
@@ -16,7 +18,13 @@ mod kernels;
 #[cfg(test)]
 mod limits;
 #[cfg(test)]
+mod lowering;
+#[cfg(test)]
 mod names;
+#[cfg(test)]
+mod nests;
+#[cfg(test)]
+mod nodes;
 #[cfg(test)]
 mod programs;
 #[cfg(test)]

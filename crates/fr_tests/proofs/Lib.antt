@@ -1,0 +1,4 @@
+pub mod Fit
+pub mod Edges
+pub mod ChainLaws
+pub mod NestLaws
