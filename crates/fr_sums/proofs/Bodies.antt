@@ -1,10 +1,10 @@
 -- The items of a body: their nodes are their sites, and what is spent is within their cost.
-use Rattle.std.proofs.Common.{◌≡◌, ◌≤◌, ◌+◌, ℕ, suc, Bool, true, false, List, [], ◌∷◌, ◌++◌, map, length, refl, ap, sym, ◌∙◌, subst, arith, sum_by, Option, ◌⊎◌, inl, inr}
+use Rattle.std.proofs.Common.{◌≡◌, ◌≢◌, ◌≤◌, ◌+◌, ℕ, suc, Bool, true, false, List, [], ◌∷◌, ◌++◌, map, length, refl, ap, sym, ◌∙◌, subst, arith, sum_by, Option, ◌⊎◌, inl, inr}
 use Rattle.std.proofs.lemmas.List.{length_push, map-append}
 use Rattle.std.proofs.lemmas.List.Sums.{sum_by-cons}
 use Rattle.fr_value.specs.declared.now.Now.{Now}
 use Rattle.fr_links.specs.Lists.{has_item}
-use Rattle.fr_links.proofs.Has.{here, there, has_append_left}
+use Rattle.fr_links.proofs.Has.{by_number, here, there, has_append_left}
 use Rattle.fr_core.specs.declared.kept.Kept.{Kept}
 use Rattle.fr_core.specs.declared.kept.Kept.TheVariants as kept
 use Rattle.fr_core.specs.declared.lowered.LowItem.{LowItem}
@@ -16,7 +16,7 @@ use Rattle.fr_meaning.specs.Evaluation.{world_of, Ev, eval_to}
 use Rattle.fr_meaning.specs.Afresh.{items, body}
 use Rattle.fr_kernel.specs.Erasure.{erase, erased_item}
 use Rattle.fr_kernel.specs.Kernels.{Kernels}
-use Rattle.fr_graph.specs.Graph.{Part, Graph, steady, signal, Work}
+use Rattle.fr_graph.specs.Graph.{Part, Graph, steady, signal, Work, Kind, source, works, watch, result}
 use Rattle.fr_graph.specs.Walk.{Plan, Walk, place}
 use Rattle.fr_graph.specs.Wired.{Wired}
 use Rattle.fr_graph.specs.Keeps.{Asked, Keeps, asks_nothing, everything}
@@ -31,8 +31,8 @@ use Rattle.fr_graph.proofs.Values.{AgreesAt, values_on}
 use Rattle.fr_graph.proofs.Items.{items_carry, items_begin}
 use Rattle.fr_sums.specs.Sites.{Site, of_source, Setting, Scope, varies, sites, when, items_sites, source_sites, body_sites}
 use Rattle.fr_sums.specs.Along.{along, add_items, all_entered}
-use Rattle.fr_sums.specs.Members.{sum_live, site_of, AreMembers, AreSources, HasProgramEra, AddsNothingElse}
-use Rattle.fr_sums.specs.Spent.{setting_of, built, Paid, choice_built, spent_at, fuel_spent, is_work, PaysAtMost, PaysAll, cost_at, PaysWhatIsKnown}
+use Rattle.fr_sums.specs.Members.{sum_live, is_watch, site_of, AreMembers, AreSources, HasProgramEra, AddsNothingElse}
+use Rattle.fr_sums.specs.Spent.{setting_of, built, Paid, choice_built, spent_at, fuel_spent, is_work, PaysAtMost, PaysAll, cost_at, PaysWhatIsKnown, choice_to_build, PaysWhileBuilding}
 use Rattle.fr_sums.proofs.Eras.{sum_along}
 use Rattle.fr_sums.proofs.Counts.{marks_of, mark_of, CountsAt, counts_on}
 use Rattle.fr_sums.proofs.Costs.{Measures, CostsAt, costs_on, when_none, apart}
@@ -145,11 +145,11 @@ sources_weigh g weigh i (m ∷ ms) h =
     ∙ ap (λ a. weigh (of_source i) + a) (sources_weigh g weigh (i + 1) ms h.1)
 
 -- nothing is spent at them
-sources_free : (g : Graph) (p : Plan) (q : Paid) → ((m : ℕ) → g.live m ≡ true → is_work (g.kind m) ≡ false → q.node m ≡ 0) → (i : ℕ) (ms : List ℕ) → AreSources g i ms
+sources_free : (g : Graph) (p : Plan) (q : Paid) → ((m : ℕ) → g.live m ≡ true → is_work (g.kind m) ≡ false → is_watch (g.kind m) ≡ false → q.node m ≡ 0) → (i : ℕ) (ms : List ℕ) → AreSources g i ms
     → ((m : ℕ) → has_item ms m ≡ true → g.live m ≡ true) → sum_by (spent_at g p q) ms ≡ 0
 sources_free g p q other i [] h live = refl
 sources_free g p q other i (m ∷ ms) h live =
-    let none : q.node m ≡ 0 = other m (live m (here m ms)) (ap is_work h.0) in
+    let none : q.node m ≡ 0 = other m (live m (here m ms)) (ap is_work h.0) (ap is_watch h.0) in
     let building : when (q.begun (suc m)) (choice_built g p m (g.kind m)) ≡ 0 = ap (λ j. when (q.begun (suc m)) (choice_built g p m j)) h.0 ∙ when_none (q.begun (suc m)) in
     let rest : sum_by (spent_at g p q) ms ≡ 0 = sources_free g p q other (i + 1) ms h.1 (λ j e. live j (there m j ms e)) in
     let opens : sum_by (spent_at g p q) (m ∷ ms) ≡ q.node m + when (q.begun (suc m)) (choice_built g p m (g.kind m)) + sum_by (spent_at g p q) ms = sum_by-cons (spent_at g p q) m ms in
@@ -158,6 +158,12 @@ sources_free g p q other i (m ∷ ms) h live =
 when_less : (b : Bool) (c : ℕ) → when b c ≤ c
 when_less true c = omega arith
 when_less false c = omega arith
+
+watch_no_work : (k : Kind) → is_watch k ≡ true → is_work k ≡ false
+watch_no_work (source s) e = refl
+watch_no_work (works w) e = absurd (false≢true e)
+watch_no_work (watch a b env) e = refl
+watch_no_work result e = refl
 
 -- where some nodes are known, over a tree that has the cells before
 module _ (g : Graph) (known : ℕ → Bool) (pr : Program) (p : Plan) (is : List LowItem) (ms firsts : List ℕ) (bound : ℕ) (sources : List Now) (before : ℕ → Option Cell) (k : Kept)
@@ -169,34 +175,58 @@ module _ (g : Graph) (known : ℕ → Bool) (pr : Program) (p : Plan) (is : List
       let sum : sum_live g bound (spent_at g p q) ≡ sum_by (spent_at g p q) firsts + add_items (body_walk p) (along g p known (spent_at g p q) 2000) [] is ms
       = sum_along g p known (spent_at g p q) is bound firsts ms way.eras members outside program way.items in
       let none : sum_by (spent_at g p q) firsts ≡ 0
-      = sources_free g p q pays.other 0 firsts program.first (λ m h. (members.only 0 m (subst (λ l. has_item l m ≡ true) (sym program.members) (has_append_left firsts ms m h))).0) in
+      = sources_free g p q (λ m lv no_work no_watch. pays.other m lv no_work (inl no_watch)) 0 firsts program.first (λ m h. (members.only 0 m (subst (λ l. has_item l m ≡ true) (sym program.members) (has_append_left firsts ms m h))).0) in
       let same : add_items (body_walk p) (along g p known (spent_at g p q) 2000) [] is ms + when (q.begun 0) (add_items (body_walk p) (built p 2000) [] is ms) ≡ fuel_spent g p q bound is ms = omega (arith, sum, none) in
       subst (λ a. R a (body pr sources k).cost) same
       (subst (λ b. R (add_items (body_walk p) (along g p known (spent_at g p q) 2000) [] is ms + when (q.begun 0) (add_items (body_walk p) (built p 2000) [] is ms)) (items (eval_to 2000 (world_of pr sources)) [] k 0 b).cost) (sym lowered.items)
       (items_cost R g known p pr lowered.plan sources before way.closed way.rules way.eras q pays 2000 few is 0 0 [] [] ms k lowered.sound tt way.items kp))
 
-  -- AN INSTANT UNDER WAY has spent no more than evaluating afresh costs.
-  pub spends_under_way : (q : Paid) → PaysWhatIsKnown g known p before q → fuel_spent g p q bound is ms ≤ (body pr sources k).cost
-  spends_under_way q pays = spending (λ a b. a ≤ b) q
-      (record {
-        sums = record { none = omega arith; both = λ a b c d h e. omega (arith, h, e) };
-        work = λ m w c live kind costs. by_paid m w c costs (pays.work m w live kind);
-        other = pays.other;
-        building = λ x c. when_less (q.begun x) c;
-        unbegun = pays.begun;
-        skipped = λ w c h. omega arith;
-      })
-      (record { outside = λ w m h e. let o = pays.outside w m h e in (spent_outside m o.0 (pays.begun m o.1), o.1) })
-    where
-      by_paid : (m : ℕ) (w : Work) (c : ℕ) → (AllKnown (λ j. known j ≡ true) (g.inputs m) → cost_at g p before m w ≡ c)
-          → (q.node m ≡ 0) ⊎ (AllKnown (λ j. known j ≡ true) (g.inputs m) × (q.node m ≤ cost_at g p before m w)) → q.node m ≤ c
-      by_paid m w c costs h = elim h [
-        | inl none ↦ omega (arith, none)
-        | inr paid ↦ let e = costs paid.0 in omega (arith, paid.1, e)
-      ]
+  module _ (q : Paid) where
+    by_paid : (m : ℕ) (w : Work) (c : ℕ) → (AllKnown (λ j. known j ≡ true) (g.inputs m) → cost_at g p before m w ≡ c)
+        → (q.node m ≡ 0) ⊎ (AllKnown (λ j. known j ≡ true) (g.inputs m) × (q.node m ≤ cost_at g p before m w)) → q.node m ≤ c
+    by_paid m w c costs h = elim h [
+      | inl none ↦ omega (arith, none)
+      | inr paid ↦ let e = costs paid.0 in omega (arith, paid.1, e)
+    ]
 
-      spent_outside : (m : ℕ) → q.node m ≡ 0 → q.begun (suc m) ≡ false → spent_at g p q m ≡ 0
-      spent_outside m none begun = let building : when (q.begun (suc m)) (choice_built g p m (g.kind m)) ≡ 0 = ap (λ b. when b (choice_built g p m (g.kind m))) begun in omega (arith, none, building)
+    spent_outside : (m : ℕ) → q.node m ≡ 0 → q.begun (suc m) ≡ false → spent_at g p q m ≡ 0
+    spent_outside m none begun = let building : when (q.begun (suc m)) (choice_built g p m (g.kind m)) ≡ 0 = ap (λ b. when b (choice_built g p m (g.kind m))) begun in omega (arith, none, building)
+
+    -- AN INSTANT UNDER WAY has spent no more than evaluating afresh costs.
+    pub spends_under_way : PaysWhatIsKnown g known p before q → fuel_spent g p q bound is ms ≤ (body pr sources k).cost
+    spends_under_way pays = spending (λ a b. a ≤ b) q
+        (record {
+          sums = record { none = omega arith; both = λ a b c d h e. omega (arith, h, e) };
+          work = λ m w c live kind costs. by_paid m w c costs (pays.work m w live kind);
+          other = λ m lv no_work side. pays.other m lv no_work;
+          building = λ x c. when_less (q.begun x) c;
+          unbegun = pays.begun;
+          unknown = λ w c h lv iw most. let none = pays.other w lv (watch_no_work (g.kind w) iw) in omega (arith, none);
+        })
+        (record { outside = λ w m h e. let o = pays.outside w m h e in (spent_outside m o.0 (pays.begun m o.1), o.1) })
+
+    -- So it has while the choice of a watch is being built.
+    pub spends_while_building : (w : ℕ) → PaysWhileBuilding g known p before q w → fuel_spent g p q bound is ms ≤ (body pr sources k).cost
+    spends_while_building w pays = spending (λ a b. a ≤ b) q
+        (record {
+          sums = record { none = omega arith; both = λ a b c d h e. omega (arith, h, e) };
+          work = λ m v c live kind costs. by_paid m v c costs (pays.work m v live kind);
+          other = λ m lv no_work side. pays.other m lv no_work (another m side);
+          building = λ x c. when_less (q.begun x) c;
+          unbegun = pays.begun;
+          unknown = λ m c h lv iw most. elim (by_number m w) [
+            | inl e ↦ subst (λ i. q.node i ≤ c) (sym e) (let l = subst (λ i. (ns : List ℕ) → AllKnown (λ j. known j ≡ true) (g.inputs i) → choice_to_build g p (g.level i) ns (g.kind i) (g.inputs i) ≤ c) e most pays.building.members pays.building.test in
+                let paid = pays.building.most in omega (arith, l, paid))
+            | inr ne ↦ let none = pays.other m lv (watch_no_work (g.kind m) iw) ne in omega (arith, none)
+          ];
+        })
+        (record { outside = λ v m h e. let o = pays.outside v m h e in (spent_outside m o.0 (pays.begun m o.1), o.1) })
+      where
+        another : (m : ℕ) → (is_watch (g.kind m) ≡ false) ⊎ (known m ≡ true) → m ≢ w
+        another m side e = elim side [
+          | inl no_watch ↦ false≢true (sym (subst (λ i. is_watch (g.kind i) ≡ false) e no_watch) ∙ pays.building.watches)
+          | inr kn ↦ false≢true (sym pays.building.unknown ∙ subst (λ i. known i ≡ true) e kn)
+        ]
 
 -- where every node is known, all are, and none stands outside
 all_known : (ps : List Part) → AllKnown (λ j. all_entered j ≡ true) ps
@@ -237,10 +267,10 @@ module _ (g : Graph) (pr : Program) (p : Plan) (is : List LowItem) (ms firsts : 
         (record {
           sums = record { none = omega arith; both = λ a b c d h e. omega (arith, h, e) };
           work = λ m w c live kind costs. let e = costs (all_known (g.inputs m)) in let paid = pays.work m w live kind in omega (arith, e, paid);
-          other = pays.other;
+          other = λ m lv no_work side. pays.other m lv no_work;
           building = λ x c. when_less (q.begun x) c;
           unbegun = λ w h. absurd (false≢true (sym h));
-          skipped = λ w c h. omega arith;
+          unknown = λ w c h lv iw most. absurd (false≢true (sym h));
         })
         (none_outside g (spent_at g p q))
 
@@ -250,10 +280,10 @@ module _ (g : Graph) (pr : Program) (p : Plan) (is : List LowItem) (ms firsts : 
         (record {
           sums = record { none = refl; both = λ a b c d h e. omega (arith, h, e) };
           work = λ m w c live kind costs. pays.work m w live kind ∙ costs (all_known (g.inputs m));
-          other = pays.other;
+          other = λ m lv no_work side. pays.other m lv no_work;
           building = λ x c. ap (λ b. when b c) (pays.begun x);
           unbegun = λ w h. absurd (false≢true (sym h));
-          skipped = λ w c h. absurd (false≢true (sym h));
+          unknown = λ w c h lv iw most. absurd (false≢true (sym h));
         })
         (none_outside g (spent_at g p q))
 

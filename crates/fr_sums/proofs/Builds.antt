@@ -44,7 +44,7 @@ use Rattle.fr_graph.proofs.Values.{AgreesAt, values_on, kernel_means}
 use Rattle.fr_sums.specs.Sites.{when}
 use Rattle.fr_sums.specs.Along.{Adding, add_all, add_chosen, add_items}
 use Rattle.fr_sums.specs.Spent.{build_work, build_switch, build_call, build_shape, built}
-use Rattle.fr_sums.proofs.Costs.{operator_cost}
+use Rattle.fr_sums.proofs.Operators.{operator_cost}
 
 module _ (g : Graph) (p : Plan) (pr : Program) (plan : IsPlanOf pr p) (sources : List Now) (means : KernelsMean p pr sources) where
   -- no node is known

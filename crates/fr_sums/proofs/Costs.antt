@@ -1,5 +1,5 @@
 -- What is spent along a walk, by the cost of the evaluation.
-use Rattle.std.proofs.Common.{◌≡◌, inl, inr, ◌≤◌, ◌+◌, ◌&&◌, not, ℕ, zero, suc, Bool, true, false, List, [], ◌∷◌, ◌++◌, map, take, drop, length, slice_get, refl, ap, sym, ◌∙◌, subst, append-nil, arith, Option, Some, None, Result, Ok, Err}
+use Rattle.std.proofs.Common.{◌≡◌, ◌⊎◌, inl, inr, ◌≤◌, ◌+◌, ◌&&◌, not, ℕ, zero, suc, Bool, true, false, List, [], ◌∷◌, ◌++◌, map, take, drop, length, slice_get, refl, ap, sym, ◌∙◌, subst, append-nil, arith, Option, Some, None, Result, Ok, Err}
 use Rattle.std.specs.Option.{option_map}
 use Rattle.std.proofs.lemmas.Bool.{false≢true}
 use Rattle.std.proofs.lemmas.List.{length-map, length-append}
@@ -13,8 +13,6 @@ use Rattle.fr_core.specs.declared.core_form.Core.TheOpen.{Core-F}
 use Rattle.fr_core.specs.declared.core_form.Core.TheVariants as core
 use Rattle.fr_core.specs.declared.core_form.Core.TheVariants.{outs-Lit, outs-Var, outs-Source, outs-Let, outs-If, outs-Apply, outs-Operator, outs-Handler, outs-Loop, outs-Feedback}
 use Rattle.fr_core.specs.declared.core_form.Loop.{Loop}
-use Rattle.fr_core.specs.declared.core_form.Operator.{Operator}
-use Rattle.fr_core.specs.declared.core_form.Operator.TheVariants as operator
 use Rattle.fr_core.specs.declared.kept.Key.TheVariants as key
 use Rattle.fr_core.specs.declared.kept.Kept.{Kept}
 use Rattle.fr_core.specs.declared.kept.Kept.TheVariants as kept
@@ -23,8 +21,8 @@ use Rattle.fr_core.specs.declared.lowered.Low.TheOpen.{Low-F}
 use Rattle.fr_core.specs.declared.program.Program.{Program}
 use Rattle.fr_meaning.specs.Words.{Seen, Env, Done, part, on_ok, test_of}
 use Rattle.fr_meaning.specs.Cells.{Cell, child, under_key}
-use Rattle.fr_meaning.specs.States.{of_operator, of_handler, of_feedback, fed, no_call, state_now, beside, state_next, early_value}
-use Rattle.fr_meaning.specs.Evaluation.{World, world_of, Ev, Parts, parts, chosen_by, Choice, switch_done, call_done, body_for, handler, body_with, rounds, all_turns, form_cell, behind_cell, layer, eval_to}
+use Rattle.fr_meaning.specs.States.{of_operator, of_handler, of_feedback, fed, state_now, beside, state_next}
+use Rattle.fr_meaning.specs.Evaluation.{World, world_of, Ev, Parts, parts, chosen_by, switch_done, call_done, body_for, handler, body_with, rounds, all_turns, form_cell, behind_cell, layer, eval_to}
 use Rattle.fr_meaning.proofs.Levels.{evaluates}
 use Rattle.fr_kernel.specs.Kernels.{Kernels, slot_seen}
 use Rattle.fr_kernel.specs.Erasure.{erase, erase_step, kernel_expr}
@@ -42,21 +40,10 @@ use Rattle.fr_graph.proofs.Inside.{erase-opens, SoundShape, sound_shape, AllSoun
 use Rattle.fr_graph.proofs.Values.{AgreesAt, values_on, all_on, slots_on, kernel_means}
 use Rattle.fr_sums.specs.Sites.{when}
 use Rattle.fr_sums.specs.Along.{Adding, add_all, add_work, add_chosen, add_switch, add_call, add_shape, along}
-use Rattle.fr_sums.specs.Spent.{build_work, build_switch, build_call, build_shape, built, Paid, choice_built, spent_at, cost_at, is_work}
-
-beside_cost : (v : Seen) (r : Result Cell Bad) → (beside v r).cost ≡ 0
-beside_cost v (Err b) = refl
-beside_cost v (Ok c) = refl
-
--- an operator's line costs the same before its cell takes its last part's value
-pub operator_cost : (t : Kernels) (n : ℕ) (o : Operator) (c : Option Cell) (xs : List Seen) → (work_line t n (operates o) c xs).cost ≡ (state_now (of_operator o) c xs no_call).cost
-operator_cost t n operator.Delay c xs = sym (beside_cost (early_value (of_operator operator.Delay) c xs) (state_next (of_operator operator.Delay) xs))
-operator_cost t n operator.DelayE c xs = sym (beside_cost (early_value (of_operator operator.DelayE) c xs) (state_next (of_operator operator.DelayE) xs))
-operator_cost t n (operator.Prim p) c xs = refl
-operator_cost t n operator.MergeE c xs = refl
-operator_cost t n operator.Hold c xs = refl
-operator_cost t n operator.Changes c xs = refl
-operator_cost t n operator.OnceE c xs = refl
+use Rattle.fr_sums.specs.Members.{is_watch}
+use Rattle.fr_sums.proofs.Operators.{beside_cost, operator_cost}
+use Rattle.fr_sums.proofs.Builds.{builds_on}
+use Rattle.fr_sums.specs.Spent.{choice_to_build, build_work, build_switch, build_call, build_shape, built, Paid, choice_built, spent_at, cost_at, is_work}
 
 -- what is spent in two places where one building is counted
 pub apart : (b : Bool) (a a' c c' : ℕ) → (a + when b a') + (c + when b c') ≡ (a + c) + when b (a' + c')
@@ -71,19 +58,28 @@ pub when_none : (b : Bool) → when b 0 ≡ 0
 when_none true = refl
 when_none false = refl
 
+-- what is held where some nodes are known is held where none is
+have_none : (g : Graph) (known : ℕ → Type 0) (ps : List Part) (vs : List Seen) → Have g known ps vs → Have g (λ m. ⊥) ps vs
+have_none g known [] [] h = tt
+have_none g known [] (v ∷ vs) h = absurd h
+have_none g known (p ∷ ps) [] h = absurd h
+have_none g known (steady u ∷ ps) (v ∷ vs) h = (h.0, have_none g known ps vs h.1)
+have_none g known (signal m ∷ ps) (v ∷ vs) h = (λ kn. absurd kn, have_none g known ps vs h.1)
+
 -- a relation of what is spent to what is evaluated, that goes along sums
 pub record IsMeasure (R : ℕ → ℕ → Type 0) : Type 0 where
   pub none : R 0 0
   pub both : (a b c d : ℕ) → R a b → R c d → R (a + c) (b + d)
 
--- what was paid for each work whose inputs are known, and each building, stands so to what it costs, whatever a work costs whose inputs aren't; nothing else is paid for, and nothing in an era whose watch isn't known, whatever that costs
+-- what was paid for each work whose inputs are known, and each building, stands so to what it costs, whatever a work costs whose inputs aren't; what was paid for a watch that isn't known stands so to whatever costs at least the building of its choice; nothing else is paid for, and nothing in the era of such a watch
 pub record Measures (R : ℕ → ℕ → Type 0) (g : Graph) (known : ℕ → Bool) (p : Plan) (before : ℕ → Option Cell) (q : Paid) : Type 0 where
   pub sums : IsMeasure R
   pub work : (m : ℕ) (w : Work) (c : ℕ) → g.live m ≡ true → g.kind m ≡ works w → (AllKnown (λ j. known j ≡ true) (g.inputs m) → cost_at g p before m w ≡ c) → R (q.node m) c
-  pub other : (m : ℕ) → g.live m ≡ true → is_work (g.kind m) ≡ false → q.node m ≡ 0
+  pub other : (m : ℕ) → g.live m ≡ true → is_work (g.kind m) ≡ false → (is_watch (g.kind m) ≡ false) ⊎ (known m ≡ true) → q.node m ≡ 0
   pub building : (x c : ℕ) → R (when (q.begun x) c) c
   pub unbegun : (w : ℕ) → known w ≡ false → q.begun (suc w) ≡ false
-  pub skipped : (w c : ℕ) → known w ≡ false → R 0 c
+  pub unknown : (w c : ℕ) → known w ≡ false → g.live w ≡ true → is_watch (g.kind w) ≡ true
+      → ((ms : List ℕ) → AllKnown (λ j. known j ≡ true) (g.inputs w) → choice_to_build g p (g.level w) ms (g.kind w) (g.inputs w) ≤ c) → R (q.node w) c
 
 module _ (R : ℕ → ℕ → Type 0) (g : Graph) (known : ℕ → Bool) (p : Plan) (pr : Program) (plan : IsPlanOf pr p) (sources : List Now) (before : ℕ → Option Cell) (closed : IsClosed g (λ m. known m ≡ true))
     (settled : SettledOn g (λ m. known m ≡ true) p.table sources before) (eras : ErasStandOn g (λ m. known m ≡ true) p) (means : KernelsMean p pr sources) (q : Paid) (pays : Measures R g known p before q) where
@@ -231,22 +227,44 @@ module _ (R : ℕ → ℕ → Type 0) (g : Graph) (known : ℕ → Bool) (p : Pl
     era_cost a b m k d at bt sw sr (Ok true) sa sb level st kp h is none = branch_cost a m (under_key (key.Test true) (child k 1)) d.cost at bt sw sr sa level st kp h is none
     era_cost a b m k d at bt sw sr (Ok false) sa sb level st kp h is none = branch_cost b m (under_key (key.Test false) (child k 1)) d.cost at bt sw sr sb level st kp h is none
 
-    -- a watch that isn't known: nothing is spent there, whatever its choice costs
-    unknown_cost : (a b : Low) (m : ℕ) (k : Kept) (d : Done) (at bt sw sr : ℕ) (o : Result Bool Bad) → known m ≡ false → Costs x at bt d.cost → sw ≡ 0 → sr ≡ 0
+    -- a watch that isn't known: what was paid for it is within what its choice costs
+    unknown_sum : (at bt paid sw sr : ℕ) (z : Bool) → sw ≡ paid → sr ≡ 0 → (at + when z bt) + paid ≡ (at + (sw + (sr + 0))) + when z (bt + 0)
+    unknown_sum at bt paid sw sr true is none = omega (arith, is, none)
+    unknown_sum at bt paid sw sr false is none = omega (arith, is, none)
+
+    no_cost : (a : ℕ) → a + 0 ≡ a
+    no_cost a = omega arith
+
+    unknown_cost : (a b : Low) (m j : ℕ) (k : Kept) (d : Done) (at bt sw sr : ℕ) (o : Result Bool Bad) → Sound t (length env) a → Sound t (length env) b
+        → known m ≡ false → g.live m ≡ true → g.kind m ≡ watch a b env → g.inputs m ≡ signal j ∷ [] → g.level m ≡ n → (known j ≡ true → test_of (g.value j) ≡ o)
+        → Costs x at bt d.cost → sw ≡ q.node m → sr ≡ 0
         → Costs x (at + (sw + (sr + 0))) (bt + 0) (switch_done ev vs k d (on_ok (chosen_by (f a) (f b)) o)).cost
-    unknown_cost a b m k d at bt sw sr o kn h is none = by_choice (on_ok (chosen_by (f a) (f b)) o)
+    unknown_cost a b m j k d at bt sw sr o sa sb kn lv kind inputs level told h is none = by_test o told
       where
-        no_more : (z : Bool) → at + when z bt ≡ (at + (sw + (sr + 0))) + when z (bt + 0)
-        no_more true = omega (arith, is, none)
-        no_more false = omega (arith, is, none)
+        chosen : (o : Result Bool Bad) → (known j ≡ true → test_of (g.value j) ≡ o) → (ns : List ℕ) → AllKnown K (g.inputs m)
+            → choice_to_build g p (g.level m) ns (g.kind m) (g.inputs m) ≡ add_chosen build a b env ns o
+        chosen o told ns test =
+            ap (λ l. choice_to_build g p (g.level m) ns l (g.inputs m)) kind
+            ∙ ap (λ l. choice_to_build g p (g.level m) ns (watch a b env) l) inputs
+            ∙ ap (λ l. add_chosen (built p l) a b env ns (test_of (g.value j))) level
+            ∙ ap (λ l. add_chosen build a b env ns l) (told (subst (AllKnown K) inputs test).0)
 
-        still : (z : Bool) → (at + when z bt) + 0 ≡ (at + (sw + (sr + 0))) + when z (bt + 0)
-        still true = omega (arith, is, none)
-        still false = omega (arith, is, none)
+        builds : (e : Low) (ns : List ℕ) (tree : Kept) → Sound t (length env) e → build e env ns ≤ (ev (f e) vs tree).cost
+        builds e ns tree s = (builds_on g p pr plan sources means n below e env vs ns tree s (have_none g K env vs en)).1
 
-        by_choice : (r : Result Choice Bad) → Costs x (at + (sw + (sr + 0))) (bt + 0) (switch_done ev vs k d r).cost
-        by_choice (Err bad) = same_sum _ _ _ (no_more (q.begun x)) h
-        by_choice (Ok c) = same_sum _ _ _ (still (q.begun x)) (pays.sums.both _ d.cost 0 _ h (pays.skipped m _ kn))
+        paid : (o : Result Bool Bad) (c : ℕ) → (known j ≡ true → test_of (g.value j) ≡ o) → ((ns : List ℕ) → add_chosen build a b env ns o ≤ c) → R (q.node m) c
+        paid o c told most = pays.unknown m c kn lv (ap is_watch kind) (λ ns test. let e = chosen o told ns test in let l = most ns in omega (arith, e, l))
+
+        by_test : (o : Result Bool Bad) → (known j ≡ true → test_of (g.value j) ≡ o) → Costs x (at + (sw + (sr + 0))) (bt + 0) (switch_done ev vs k d (on_ok (chosen_by (f a) (f b)) o)).cost
+        by_test (Err bad) told =
+            same_cost _ _ _ (no_cost d.cost)
+            (same_sum _ _ _ (unknown_sum at bt (q.node m) sw sr (q.begun x) is none) (pays.sums.both _ d.cost _ 0 h (paid (Err bad) 0 told (λ ns. omega arith))))
+        by_test (Ok true) told =
+            let c = (ev (f a) vs (under_key (key.Test true) (child k 1))).cost in
+            same_sum _ _ _ (unknown_sum at bt (q.node m) sw sr (q.begun x) is none) (pays.sums.both _ d.cost _ c h (paid (Ok true) c told (λ ns. builds a ns (under_key (key.Test true) (child k 1)) sa)))
+        by_test (Ok false) told =
+            let c = (ev (f b) vs (under_key (key.Test false) (child k 1))).cost in
+            same_sum _ _ _ (unknown_sum at bt (q.node m) sw sr (q.begun x) is none) (pays.sums.both _ d.cost _ c h (paid (Ok false) c told (λ ns. builds b ns (under_key (key.Test false) (child k 1)) sb)))
 
     switch_cost : (a b : Low) (h : Part) (ms : List ℕ) (k : Kept) (d : Done) (at bt : ℕ) → Sound t (length env) a → Sound t (length env) b → (IsKnown K h → part_value g h ≡ d.value) → Costs x at bt d.cost
         → SwitchStands g x n Stands a b env h ms → SwitchKeeps g old Trees a b env h ms (child k 1)
@@ -257,19 +275,19 @@ module _ (R : ℕ → ℕ → Type 0) (g : Graph) (known : ℕ → Bool) (p : Pl
     switch_cost a b (signal m) ms k d at bt sa sb value h st kp = elim (by_truth (known (first ms))) [
       | inl there ↦ subst (λ u. Costs x (at + (spent (first ms) + (spent (first (rest ms)) + when u (add_chosen add a b env (g.members (suc (first ms))) (test_of (g.value (first ms))))))) (bt + 0) (switch_done ev vs k d (on_ok (chosen_by (f a) (f b)) (test_of d.value))).cost) (sym there) (entering there)
       | inr apart ↦ subst (λ u. Costs x (at + (spent (first ms) + (spent (first (rest ms)) + when u (add_chosen add a b env (g.members (suc (first ms))) (test_of (g.value (first ms))))))) (bt + 0) (switch_done ev vs k d (on_ok (chosen_by (f a) (f b)) (test_of d.value))).cost) (sym apart)
-          (unknown_cost a b (first ms) k d at bt (spent (first ms)) (spent (first (rest ms))) (test_of d.value) apart h (unspent apart) none)
+          (unknown_cost a b (first ms) m k d at bt (spent (first ms)) (spent (first (rest ms))) (test_of d.value) sa sb apart st.watch.live st.watch.kind st.watch.inputs st.watch.level (λ kn. ap test_of (value kn)) h (unspent apart) none)
     ]
       where
         none : spent (first (rest ms)) ≡ 0
-        none = spent_alone (first (rest ms)) result st.kind (λ j. refl) ∙ pays.other (first (rest ms)) st.live (ap is_work st.kind)
+        none = spent_alone (first (rest ms)) result st.kind (λ j. refl) ∙ pays.other (first (rest ms)) st.live (ap is_work st.kind) (inl (ap is_watch st.kind))
 
-        nothing : q.node (first ms) ≡ 0
-        nothing = pays.other (first ms) st.watch.live (ap is_work st.watch.kind)
+        nothing : known (first ms) ≡ true → q.node (first ms) ≡ 0
+        nothing kn = pays.other (first ms) st.watch.live (ap is_work st.watch.kind) (inr kn)
 
-        unspent : known (first ms) ≡ false → spent (first ms) ≡ 0
+        unspent : known (first ms) ≡ false → spent (first ms) ≡ q.node (first ms)
         unspent kn =
             let building : when (q.begun (suc (first ms))) (choice_built g p (first ms) (g.kind (first ms))) ≡ 0 = ap (λ b. when b (choice_built g p (first ms) (g.kind (first ms)))) (pays.unbegun (first ms) kn) in
-            omega (arith, nothing, building)
+            omega (arith, building)
 
         entering : known (first ms) ≡ true → Costs x (at + (spent (first ms) + (spent (first (rest ms)) + add_chosen add a b env (g.members (suc (first ms))) (test_of (g.value (first ms)))))) (bt + 0) (switch_done ev vs k d (on_ok (chosen_by (f a) (f b)) (test_of d.value))).cost
         entering kn =
@@ -279,7 +297,7 @@ module _ (R : ℕ → ℕ → Type 0) (g : Graph) (known : ℕ → Bool) (p : Pl
             let era : choice_built g p (first ms) (g.kind (first ms)) ≡ add_chosen build a b env (g.members (suc (first ms))) (test_of (g.value (first ms)))
             = ap (choice_built g p (first ms)) st.watch.kind ∙ ap (λ j. add_chosen (built p j) a b env (g.members (suc (first ms))) (test_of (g.value (first ms)))) st.watch.level in
             let building : when (q.begun (suc (first ms))) (choice_built g p (first ms) (g.kind (first ms))) ≡ when (q.begun (suc (first ms))) (add_chosen build a b env (g.members (suc (first ms))) (test_of (g.value (first ms)))) = ap (when (q.begun (suc (first ms)))) era in
-            let is : spent (first ms) ≡ when (q.begun (suc (first ms))) (add_chosen build a b env (g.members (suc (first ms))) (test_of (g.value (first ms)))) = omega (arith, nothing, building) in
+            let is : spent (first ms) ≡ when (q.begun (suc (first ms))) (add_chosen build a b env (g.members (suc (first ms))) (test_of (g.value (first ms)))) = (let paid_none = nothing kn in omega (arith, paid_none, building)) in
             subst (λ o. Costs x (at + (spent (first ms) + (spent (first (rest ms)) + add_chosen add a b env (g.members (suc (first ms))) (test_of (g.value (first ms)))))) (bt + 0) (switch_done ev vs k d (on_ok (chosen_by (f a) (f b)) o)).cost) told
             (era_cost a b (first ms) k d at bt (spent (first ms)) (spent (first (rest ms))) (test_of (g.value (first ms))) sa sb st.watch.level (eras (first ms) a b env kn st.watch.live st.watch.kind) (kp kn).1 h is none)
 

@@ -1,5 +1,5 @@
 -- What an instant spends of its fuel.
-use Rattle.std.specs.Prelude.{◌≡◌, ◌⊎◌, ◌≤◌, ℕ, ◌+◌, zero, suc, Bool, true, false, ◌&&◌, List, [], ◌∷◌, ◌++◌, length, slice_get, Option, Some, None}
+use Rattle.std.specs.Prelude.{◌≡◌, ◌≢◌, ◌⊎◌, ◌≤◌, ℕ, ◌+◌, zero, suc, Bool, true, false, ◌&&◌, List, [], ◌∷◌, ◌++◌, length, slice_get, Option, Some, None}
 use Rattle.fr_links.specs.Lists.{has_item}
 use Rattle.fr_core.specs.declared.lowered.Low.{Low, out-Low}
 use Rattle.fr_core.specs.declared.lowered.Low.TheOpen.{Low-F}
@@ -9,13 +9,13 @@ use Rattle.fr_value.specs.declared.now.Now.{Now}
 use Rattle.fr_meaning.specs.Words.{test_of}
 use Rattle.fr_meaning.specs.Cells.{Cell}
 use Rattle.fr_meaning.specs.Evaluation.{world_of}
-use Rattle.fr_graph.specs.Graph.{Part, steady, signal, Work, operates, handles, loops, runs, Kind, works, watch, Graph, part_values, work_line, is_plain}
+use Rattle.fr_graph.specs.Graph.{Part, steady, signal, Work, operates, handles, loops, runs, Kind, works, watch, Graph, part_value, part_values, work_line, is_plain}
 use Rattle.fr_graph.specs.Walk.{Plan, first, rest, Walk, AllPlaced, place_all, all_steady, steady_values, slot_parts, low_body, place}
 use Rattle.fr_graph.specs.Known.{AllKnown}
 use Rattle.fr_graph.specs.Items.{body_walk}
 use Rattle.fr_sums.specs.Sites.{Setting, when}
 use Rattle.fr_sums.specs.Along.{Adding, add_all, add_chosen, add_items}
-use Rattle.fr_sums.specs.Members.{sum_live}
+use Rattle.fr_sums.specs.Members.{sum_live, is_watch}
 
 -- the setting of a plan that a program was lowered to
 abbrev pub setting_of : Program → Plan → List Now → Setting
@@ -99,3 +99,24 @@ pub record PaysWhatIsKnown (g : Graph) (known : ℕ → Bool) (p : Plan) (before
   pub other : (m : ℕ) → g.live m ≡ true → is_work (g.kind m) ≡ false → q.node m ≡ 0
   pub begun : (w : ℕ) → known w ≡ false → q.begun (suc w) ≡ false
   pub outside : (w m : ℕ) → known w ≡ false → has_item (g.members (suc w)) m ≡ true → (q.node m ≡ 0) × (known m ≡ false)
+
+-- what it costs to build what a watch is to choose by the value of its test, over these members
+abbrev pub choice_to_build : Graph → Plan → ℕ → List ℕ → Kind → List Part → ℕ
+choice_to_build g p n ms (watch a b env) (test ∷ []) = add_chosen (built p n) a b env ms (test_of (part_value g test))
+choice_to_build g p n ms k ins = 0
+
+-- the choice of a watch is being built: the watch isn't known yet, but its test is, and what was paid for it is no more than that building costs
+pub record IsBeingBuilt (g : Graph) (known : ℕ → Bool) (p : Plan) (q : Paid) (w : ℕ) : Type 0 where
+  pub watches : is_watch (g.kind w) ≡ true
+  pub unknown : known w ≡ false
+  pub test : AllKnown (λ j. known j ≡ true) (g.inputs w)
+  pub members : List ℕ
+  pub most : q.node w ≤ choice_to_build g p (g.level w) members (g.kind w) (g.inputs w)
+
+-- while an instant is under way and the choice of a watch is being built: that is paid for too, beside what is known
+pub record PaysWhileBuilding (g : Graph) (known : ℕ → Bool) (p : Plan) (before : ℕ → Option Cell) (q : Paid) (w : ℕ) : Type 0 where
+  pub work : (m : ℕ) (v : Work) → g.live m ≡ true → g.kind m ≡ works v → (q.node m ≡ 0) ⊎ (AllKnown (λ j. known j ≡ true) (g.inputs m) × (q.node m ≤ cost_at g p before m v))
+  pub other : (m : ℕ) → g.live m ≡ true → is_work (g.kind m) ≡ false → m ≢ w → q.node m ≡ 0
+  pub begun : (v : ℕ) → known v ≡ false → q.begun (suc v) ≡ false
+  pub outside : (v m : ℕ) → known v ≡ false → has_item (g.members (suc v)) m ≡ true → (q.node m ≡ 0) × (known m ≡ false)
+  pub building : IsBeingBuilt g known p q w

@@ -13,7 +13,7 @@ ghost use Rattle.fr_graph.specs.Items.{AreLowered, body_walk, HasNodes, IsSettle
 ghost use Rattle.fr_sums.specs.Sites.{Site, body_sites};
 ghost use Rattle.fr_sums.specs.Along.{add_items};
 ghost use Rattle.fr_sums.specs.Members.{sum_live, site_of, AreMembers, HasProgramEra};
-ghost use Rattle.fr_sums.specs.Spent.{setting_of, built, Paid, fuel_spent, PaysAtMost, PaysAll, PaysWhatIsKnown};
+ghost use Rattle.fr_sums.specs.Spent.{setting_of, built, Paid, fuel_spent, PaysAtMost, PaysAll, PaysWhatIsKnown, PaysWhileBuilding};
 
 /// The live nodes of a graph at the end of an instant are, kind by kind, the sites that evaluating the program's body
 /// afresh has: at the first instant over nothing kept, and at each further one over every tree for which the graph stood
@@ -53,6 +53,17 @@ pub fn spending_under_way_is_within_cost()
         → fuel_spent g p q bound is ms ≤ (body pr sources kept.Nothing).cost }
     ensures further { (was g : Graph) (known : ℕ → Bool) (pr : Program) (p : Plan) (is : List LowItem) (ms firsts : List ℕ) (bound : ℕ) (sources : List Now) (before : ℕ → Option Cell) (q : Paid) (k : Kept)
         → AreLowered pr p is → Goes was g before → HasNodes was p is ms → IsUnderWay g (λ m. known m ≡ true) p is ms sources before → StandsForTree was p is ms k → AreMembers g bound → HasProgramEra g p is firsts ms → PaysWhatIsKnown g known p before q
+        → fuel_spent g p q bound is ms ≤ (body pr sources k).cost }
+{}
+
+/// So is what it has spent while the choice of a watch is being built, with what that building has cost so far: the watch
+/// isn't known to be right yet, but its test is, and the evaluation evaluates what that chooses.
+pub fn spending_while_building_is_within_cost()
+    ensures first { (was g : Graph) (known : ℕ → Bool) (pr : Program) (p : Plan) (is : List LowItem) (ms firsts : List ℕ) (bound : ℕ) (sources : List Now) (before : ℕ → Option Cell) (q : Paid) (w : ℕ)
+        → AreLowered pr p is → IsEmpty was → Goes was g before → IsUnderWay g (λ m. known m ≡ true) p is ms sources before → AreMembers g bound → HasProgramEra g p is firsts ms → PaysWhileBuilding g known p before q w
+        → fuel_spent g p q bound is ms ≤ (body pr sources kept.Nothing).cost }
+    ensures further { (was g : Graph) (known : ℕ → Bool) (pr : Program) (p : Plan) (is : List LowItem) (ms firsts : List ℕ) (bound : ℕ) (sources : List Now) (before : ℕ → Option Cell) (q : Paid) (w : ℕ) (k : Kept)
+        → AreLowered pr p is → Goes was g before → HasNodes was p is ms → IsUnderWay g (λ m. known m ≡ true) p is ms sources before → StandsForTree was p is ms k → AreMembers g bound → HasProgramEra g p is firsts ms → PaysWhileBuilding g known p before q w
         → fuel_spent g p q bound is ms ≤ (body pr sources k).cost }
 {}
 

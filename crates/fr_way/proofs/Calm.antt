@@ -1,114 +1,58 @@
 -- What stands for an expression never occurs for ever, where the variables in scope don't.
-use Rattle.std.proofs.Common.{◌≡◌, ℕ, zero, suc, Bool, true, false, ◌&&◌, if◌then◌else◌, List, [], ◌∷◌, ◌++◌, map, drop, length, replicate, slice_get, refl, subst, Option, Some, None, Result, Ok, Err}
+use Rattle.std.proofs.Common.{◌≡◌, ℕ, zero, suc, Bool, true, false, ◌&&◌, if◌then◌else◌, List, [], ◌∷◌, ◌++◌, length, slice_get, refl, sym, Option, Some, None, Result, Ok, Err}
 use Rattle.std.proofs.lemmas.Bool.{false≢true}
-use Rattle.std.specs.Prelude.{◌+◌}
 use Rattle.fr_value.specs.declared.now.Bad.{Bad}
-use Rattle.fr_value.specs.Data.{value_of}
-use Rattle.fr_value.specs.declared.value.Datum.{Datum}
 use Rattle.fr_value.specs.declared.value.Value.{Value}
-use Rattle.fr_value.specs.declared.primitive.Primitive.{Primitive}
-use Rattle.fr_prims.specs.Integers.{Answer}
-use Rattle.fr_prims.specs.Table.{prim_on}
-use Rattle.fr_core.specs.declared.core_form.Loop.{Loop}
-use Rattle.fr_core.specs.declared.core_form.Loop.TheVariants as loop
 use Rattle.fr_core.specs.declared.core_form.Operator.TheVariants as operator
 use Rattle.fr_core.specs.declared.lowered.Low.{Low, out-Low}
 use Rattle.fr_core.specs.declared.lowered.Low.TheOpen.{Low-F}
 use Rattle.fr_core.specs.declared.lowered.Slot.{Slot}
 use Rattle.fr_core.specs.declared.lowered.Slot.TheVariants as slot
-use Rattle.fr_meaning.specs.Words.{Seen, Done, plain, part, on_ok, test_of}
+use Rattle.fr_core.specs.declared.program.Program.{Program}
+use Rattle.fr_meaning.specs.Words.{Seen, plain, test_of}
 use Rattle.fr_meaning.specs.Cells.{Cell}
-use Rattle.fr_meaning.specs.Primitives.{first_bad, plain_values, answer_seen, on_values, unless_bad, applied}
-use Rattle.fr_meaning.specs.Evaluation.{turns, all_turns, rounds, list_in, count_in}
-use Rattle.fr_kernel.specs.Kernels.{Kernels}
-use Rattle.fr_graph.specs.Graph.{Part, steady, signal, Work, operates, handles, loops, runs, feeds, kernel_run, work_line, is_plain}
+use Rattle.fr_kernel.specs.Kernels.{Kernels, Kernel}
+use Rattle.fr_kernel.specs.Purity.{IsPureOver}
+use Rattle.fr_graph.specs.Graph.{Part, steady, signal, Work, operates, handles, loops, runs, feeds, work_line, is_plain}
 use Rattle.fr_graph.specs.Walk.{Plan, first, rest, Walk, AllPlaced, place_all, by_value, by_next, all_steady, steady_values, place_work, variable_part, slot_parts, low_body, place_chosen, place_switch, place_call, place_shape, place}
 use Rattle.fr_graph.specs.Wired.{inputs_of}
+use Rattle.fr_graph.specs.Sound.{IsPlanOf}
 use Rattle.fr_way.specs.Frame.{occurs_now, AreCalm}
 use Rattle.fr_way.specs.Calm.{Quiet, KernelsCalm}
-use Rattle.fr_way.proofs.Rests.{quiet_part}
+use Rattle.fr_way.proofs.Clear.{AreClear, clear_kernels, clear_work}
 
 both_true : (a b : Bool) → a && b ≡ true → (a ≡ true) × (b ≡ true)
 both_true true true h = (refl, refl)
 both_true true false h = cc
 both_true false b h = cc
 
-quiet_drop : (k : ℕ) (xs : List Seen) → Quiet xs → Quiet (drop k xs)
-quiet_drop zero xs q = q
-quiet_drop (suc k) [] q = tt
-quiet_drop (suc k) (x ∷ xs) q = quiet_drop k xs q.1
+-- an occurrence is neither an error nor a plain value
 
--- a primitive gives no event
+no_error : (b : Bad) → occurs_now (Err b) ≡ false
+no_error b = refl
 
-answer_calm : (a : Answer) → occurs_now (answer_seen a) ≡ false
-answer_calm (Ok v) = refl
-answer_calm (Err b) = refl
+no_datum : (v : Value) → occurs_now (plain v) ≡ false
+no_datum v = refl
 
-values_calm : (p : Primitive) (o : Option (List Value)) → occurs_now (on_values p o) ≡ false
-values_calm p None = refl
-values_calm p (Some vs) = answer_calm (prim_on p vs)
+clear : (xs : List Seen) → Quiet xs → AreClear occurs_now no_error no_datum xs
+clear [] q = tt
+clear (x ∷ xs) q = (q.0, clear xs q.1)
 
-unless_calm : (o : Option Bad) (x : Seen) → occurs_now x ≡ false → occurs_now (unless_bad o x) ≡ false
-unless_calm None x h = h
-unless_calm (Some b) x h = refl
+quiet : (xs : List Seen) → AreClear occurs_now no_error no_datum xs → Quiet xs
+quiet [] c = tt
+quiet (x ∷ xs) c = (c.0, quiet xs c.1)
 
-pub applied_calm : (p : Primitive) (xs : List Seen) → occurs_now (applied p xs) ≡ false
-unfolding applied
-applied_calm p xs = unless_calm (first_bad xs) (on_values p (plain_values xs)) (values_calm p (plain_values xs))
+-- kernels of pure expressions give no occurrence over values that don't occur
+pub kernels_calm : (t : Kernels) → ((i : ℕ) (k : Kernel) → slice_get t.kernels i ≡ Some k → IsPureOver t.functions k.expr) → KernelsCalm t
+kernels_calm t pure n i slots args qs qa = clear_kernels occurs_now no_error no_datum t pure n i slots args (clear slots qs) (clear args qa)
 
--- nor does a loop whose turns don't
+pub plan_calm : (pr : Program) (p : Plan) → IsPlanOf pr p → KernelsCalm p.table
+plan_calm pr p plan = kernels_calm p.table (λ i k e. record { program = pr; functions = sym plan.table; pure = plan.pure i k e })
 
-abbrev EachQuiet : List (List Seen) → Type 0
-EachQuiet [] = Unit {0}
-EachQuiet (vs ∷ rest) = Quiet vs × EachQuiet rest
-
-turns_calm : (run : List Seen → Done) → ((args : List Seen) → Quiet args → occurs_now (run args).value ≡ false) → (t : ℕ) (acc : Seen) (more : List (List Seen)) → occurs_now acc ≡ false → EachQuiet more
-    → occurs_now (turns run t acc more).value ≡ false
-turns_calm run calm t acc [] a q = a
-turns_calm run calm t acc (vs ∷ more) a q = turns_calm run calm (t + 1) (run (acc ∷ vs)).value more (calm (acc ∷ vs) (a, q.0)) q.1
-
-pub all_calm : (run : List Seen → Done) → ((args : List Seen) → Quiet args → occurs_now (run args).value ≡ false) → (acc : Seen) (o : Result (List (List Seen)) Bad) → occurs_now acc ≡ false
-    → ((more : List (List Seen)) → o ≡ Ok more → EachQuiet more) → occurs_now (all_turns run acc o).value ≡ false
-all_calm run calm acc (Err b) a q = refl
-all_calm run calm acc (Ok more) a q = turns_calm run calm 0 acc more a (q more refl)
-
-items_quiet : (ds : List Datum) → EachQuiet (map (λ d. plain (value_of d) ∷ []) ds)
-items_quiet [] = tt
-items_quiet (d ∷ ds) = ((refl, tt), items_quiet ds)
-
-many_quiet : (n : ℕ) → EachQuiet (replicate n [])
-many_quiet zero = tt
-many_quiet (suc n) = (tt, many_quiet n)
-
-same_ok : (a b : List (List Seen)) → Path (Result (List (List Seen)) Bad) (Ok a) (Ok b) → a ≡ b
-same_ok a b e = cc
-
-pub rounds_quiet : (l : Loop) (x : Seen) (more : List (List Seen)) → rounds l x ≡ Ok more → EachQuiet more
-rounds_quiet loop.Fold x more e = by_list (list_in x) e
-  where
-    by_list : (r : Result (List Datum) Bad) → on_ok (map (λ d. plain (value_of d) ∷ [])) r ≡ Ok more → EachQuiet more
-    by_list (Err b) e = cc
-    by_list (Ok ds) e = subst EachQuiet (same_ok (map (λ d. plain (value_of d) ∷ []) ds) more e) (items_quiet ds)
-rounds_quiet loop.Repeat x more e = by_count (count_in x) e
-  where
-    by_count : (r : Result ℕ Bad) → on_ok (λ n. replicate n []) r ≡ Ok more → EachQuiet more
-    by_count (Err b) e = cc
-    by_count (Ok n) e = subst EachQuiet (same_ok (replicate n []) more e) (many_quiet n)
-
--- a plain work over values that don't occur gives none that does
-pub plain_calm : (t : Kernels) → KernelsCalm t → (n : ℕ) (w : Work) (c : Option Cell) (xs : List Seen) → is_plain w ≡ true → Quiet xs → occurs_now (work_line t n w c xs).value ≡ false
-plain_calm t kernels n (operates (operator.Prim p)) c xs h q = applied_calm p xs
-plain_calm t kernels n (operates operator.MergeE) c xs h q = absurd (false≢true h)
-plain_calm t kernels n (operates operator.Hold) c xs h q = absurd (false≢true h)
-plain_calm t kernels n (operates operator.Changes) c xs h q = absurd (false≢true h)
-plain_calm t kernels n (operates operator.OnceE) c xs h q = absurd (false≢true h)
-plain_calm t kernels n (operates operator.Delay) c xs h q = absurd (false≢true h)
-plain_calm t kernels n (operates operator.DelayE) c xs h q = absurd (false≢true h)
-plain_calm t kernels n (handles f id) c xs h q = absurd (false≢true h)
-plain_calm t kernels n (loops l id) c xs h q =
-    all_calm (kernel_run t n id (drop 2 xs)) (λ args a. kernels n id (drop 2 xs) args (quiet_drop 2 xs q) a) (part xs 0) (rounds l (part xs 1)) (quiet_part xs 0 q) (rounds_quiet l (part xs 1))
-plain_calm t kernels n (runs id) c xs h q = kernels (suc n) id xs [] q tt
-plain_calm t kernels n feeds c xs h q = absurd (false≢true h)
+-- nor does a plain work
+plain_calm : (t : Kernels) → KernelsCalm t → (n : ℕ) (w : Work) (c : Option Cell) (xs : List Seen) → is_plain w ≡ true → Quiet xs → occurs_now (work_line t n w c xs).value ≡ false
+plain_calm t kernels n w c xs h q =
+    clear_work occurs_now no_error no_datum t (λ n i slots args cs ca. kernels n i slots args (quiet slots cs) (quiet args ca)) n w c xs h (clear xs q)
 
 -- parts
 

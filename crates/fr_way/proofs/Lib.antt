@@ -1,21 +1,31 @@
 mod Stay
 mod Shapes
-mod Computed
+pub mod Computed
 mod Rests
-mod Calm
 mod Purity
-mod Evals
-mod Begun
-mod Ended
-mod Fronts
+pub mod Clear
+mod Calm
+pub mod Begun
+pub mod Ended
+pub mod Fronts
 mod Occur
-mod Used
+pub mod Used
 mod Errs
-mod Cases
-mod Names
+pub mod Cases
+pub mod Names
 mod Rules
-mod Rebuilt
+pub mod Rebuilt
 mod TurnPart
 mod TurnFrame
-mod Turn
-mod TurnOrder
+pub mod Turn
+pub mod TurnOrder
+pub mod Middle
+mod Lives
+mod Buried
+mod BuriedTrees
+mod Loop
+mod Concrete
+mod Examples
+mod Shown
+mod Delayed
+mod Erring

@@ -26,7 +26,7 @@ use Rattle.fr_way.proofs.TurnFrame.{Regrown, given_scope, given_no_watch, member
 use Rattle.fr_way.proofs.Rebuilt.{rebuilt_keeps}
 
 -- what is read of one part is known if the part is
-known_read : (known : ℕ → Type 0) (q : Part) → IsKnown known q → (j : ℕ) → Reads j (q ∷ []) → known j
+pub known_read : (known : ℕ → Type 0) (q : Part) → IsKnown known q → (j : ℕ) → Reads j (q ∷ []) → known j
 known_read known (steady v) kn j rd = absurd rd
 known_read known (signal m) kn j rd = elim rd [ inl e ↦ subst known e kn | inr off ↦ absurd off ]
 
@@ -253,13 +253,13 @@ module _ (p : Plan) (is : List LowItem) (ms : List ℕ) (sources : List Now) (ol
   }
 
   -- WHAT THE RESULT READS
-  abbrev IsFit : ℕ → Type 0
+  abbrev pub IsFit : ℕ → Type 0
   IsFit j = InScope n (suc w) j × (is_watch (n.kind j) ≡ false)
 
   fits : (j : ℕ) → IsGiven n t.scope j → IsFit j
   fits j given = (given_scope g n at.height u.frame w t.scope regrown j given, given_no_watch g n at.height u.frame w t.scope regrown j given)
 
-  part_fits : IsKnown IsFit part
+  pub part_fits : IsKnown IsFit part
   part_fits =
       part_from t3.graph p (suc w) IsFit
       (λ s st. fits (p.node_of s) (inr (t.rewires.live (p.node_of s) ∙ st.live, ap is_source (t.rewires.kind (p.node_of s) ∙ st.kind))))
@@ -409,7 +409,7 @@ module _ (p : Plan) (is : List LowItem) (ms : List ℕ) (sources : List Now) (ol
     goes_on : (m : ℕ) → m ≢ w → t2.graph.live m ≡ true → GoesOn at (record new { graph = n }) t.height m
     goes_on m ne l2 = record {
       value = value_set m l2 ∙ t.sets.value m ne;
-      cell = cell_set m l2 ∙ t.sets.cell m;
+      cell = cell_set m l2 ∙ t.sets.cell m ne;
       done = done_set m l2 ∙ t.sets.others m ne;
       kind = kind_on m l2;
       later = later_on m l2;

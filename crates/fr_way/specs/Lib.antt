@@ -7,3 +7,5 @@ pub mod Order
 pub mod Ends
 pub mod Fronts
 pub mod Calm
+pub mod Burial
+pub mod Loop

@@ -24,11 +24,11 @@ pub record IsSame (at new : Way) (m : ℕ) : Type 0 where
   pub era : new.graph.era m ≡ at.graph.era m
   pub done : new.done m ≡ at.done m
 
--- a node that was queued got this value and counts as computed; all else is as it was
+-- a node that was queued got a value and a cell and counts as computed; all else is as it was
 pub record IsSet (at new : Way) (w : ℕ) : Type 0 where
   pub shape : SameShape at.graph new.graph
   pub value : (j : ℕ) → j ≢ w → new.graph.value j ≡ at.graph.value j
-  pub cell : (j : ℕ) → new.graph.cell j ≡ at.graph.cell j
+  pub cell : (j : ℕ) → j ≢ w → new.graph.cell j ≡ at.graph.cell j
   pub taken : (j : ℕ) → new.taken j ≡ at.taken j
   pub heights : (j : ℕ) → new.height j ≡ at.height j
   pub done : new.done w ≡ true
@@ -141,6 +141,43 @@ pub record Queues (at new : Way) (r : ℕ) : Type 0 where
   pub done : (m : ℕ) → new.done m ≡ at.done m
   pub here : new.queued r ≡ Some (new.height r)
   pub queue : (m : ℕ) → m ≢ r → new.queued m ≡ at.queued m
+
+-- the era of a watch that was computed has ended
+pub record Leaves (at t1 t2 : Way) (w h : ℕ) : Type 0 where
+  pub least : IsLeast at w h
+  pub watches : is_watch (at.graph.kind w) ≡ true
+  pub sets : IsSet at t1 w
+  pub kills : Kills t1 t2 (suc w)
+
+-- where a choice is to be built: its era has no members, its owner lives, no part in scope names what doesn't live or a watch, every watch has a result, what lives is in use, and only that is queued
+pub record IsClear (at : Way) (w : ℕ) (env : List Part) : Type 0 where
+  pub empty : at.graph.members (suc w) ≡ []
+  pub owner : at.graph.live w ≡ true
+  pub scope : (j : ℕ) → Reads j env → at.graph.live j ≡ true
+  pub no_watch : (j : ℕ) → Reads j env → is_watch (at.graph.kind j) ≡ false
+  pub results : (v : ℕ) → at.graph.live v ≡ true → is_watch (at.graph.kind v) ≡ true → at.graph.kind (at.graph.result_of v) ≡ result
+  pub taken : (m : ℕ) → at.graph.live m ≡ true → at.taken m ≡ true
+  pub queue : (m : ℕ) → at.graph.live m ≡ false → at.queued m ≡ None
+
+-- a queued watch of least height is computed by its rule to another key than it had, or for the first time; its era ends, and the choice of its key is built in it
+pub record Rechooses (p : Plan) (sources : List Now) (old : Graph) (at t1 t2 t3 : Way) (w : ℕ) : Type 0 where
+  pub height : ℕ
+  pub least : IsLeast at w height
+  pub when_true : Low
+  pub when_false : Low
+  pub scope : List Part
+  pub kind : at.graph.kind w ≡ watch when_true when_false scope
+  pub holds : Bool
+  pub told : test_of (t1.graph.value w) ≡ Ok holds
+  pub rule : Rule t1.graph p.table sources (cell_in old) w (t1.graph.kind w) (t1.graph.inputs w)
+  pub other_key : old.live w ≡ true → test_of (t1.graph.value w) ≢ test_of (at.graph.value w)
+  pub sets : IsSet at t1 w
+  pub kills : Kills t1 t2 (suc w)
+  pub grows : Grows t2 t3 p (suc w) height (at.graph.level w) (if holds then when_true else when_false) scope
+
+-- what stands for the choice that was built
+abbrev pub chosen_part : (p : Plan) (sources : List Now) (old : Graph) (at t1 t2 t3 : Way) (w : ℕ) → Rechooses p sources old at t1 t2 t3 w → Part
+chosen_part p sources old at t1 t2 t3 w c = (place p (at.graph.level w) (if c.holds then c.when_true else c.when_false) c.scope (t3.graph.members (suc w))).part
 
 -- a queued watch of least height, with two choices over variables in scope, is computed by its rule to another key than it had, or for the first time; its era ends, the choice of its key is built in it, and its result reads what stands for that
 pub record Replaces (p : Plan) (sources : List Now) (old : Graph) (at t1 t2 t3 t4 : Way) (w : ℕ) : Type 0 where

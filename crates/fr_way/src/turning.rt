@@ -1,14 +1,16 @@
-ghost use Rattle.std.specs.Prelude.{◌≡◌, ◌≢◌, ◌<◌, ◌≤◌, ℕ, suc, true, List, [], ◌∷◌};
+ghost use Rattle.std.specs.Prelude.{◌≡◌, ◌≢◌, ◌<◌, ◌≤◌, ℕ, suc, true, false, List, [], ◌∷◌};
 ghost use Rattle.std.specs.Option.{option_map};
 ghost use Rattle.fr_value.specs.declared.now.Now.{Now};
+ghost use Rattle.fr_core.specs.declared.lowered.Low.{Low};
 ghost use Rattle.fr_core.specs.declared.lowered.LowItem.{LowItem};
 ghost use Rattle.fr_meaning.specs.Words.{Seen};
-ghost use Rattle.fr_graph.specs.Graph.{Graph, signal, steady};
+ghost use Rattle.fr_graph.specs.Graph.{Part, Graph, signal, steady, watch};
 ghost use Rattle.fr_graph.specs.Walk.{Plan};
+ghost use Rattle.fr_graph.specs.Known.{Reads};
 ghost use Rattle.fr_way.specs.Frame.{is_watch, Names, IsFramed, Inside};
 ghost use Rattle.fr_way.specs.Way.{Way, UnderWay};
-ghost use Rattle.fr_way.specs.Steps.{Computes, Rebuilds};
-ghost use Rattle.fr_way.specs.Turns.{Raises, Replaces, Turns};
+ghost use Rattle.fr_way.specs.Steps.{Computes, IsLeast, Rebuilds};
+ghost use Rattle.fr_way.specs.Turns.{chosen_part, IsClear, IsSet, Leaves, Raises, Rechooses, Replaces, Turns};
 ghost use Rattle.fr_way.specs.Order.{IsOver, DeadAreLevelled, AreLevelledBut, AreBelow, IsOrdered};
 
 /// A watch that turns to another key, or chooses for the first time, keeps what is under way: the steps of its turning
@@ -57,4 +59,18 @@ pub fn what_awaits_burial_is_levelled()
     ensures computed { (p : Plan) (sources : List Now) (old : Graph) (at next : Way) (m : ℕ) → DeadAreLevelled at → Computes p sources old at next m → DeadAreLevelled next }
     ensures turned { (p : Plan) (is : List LowItem) (ms : List ℕ) (sources : List Now) (old : Graph) (at t1 t2 t3 t4 t5 next : Way) (w : ℕ)
         → UnderWay p is ms sources old at → DeadAreLevelled at → Turns p sources old at t1 t2 t3 t4 t5 next w → DeadAreLevelled next }
+{}
+
+/// Between the steps of a turning: nothing that ends was computed at this instant, all that a choice may name is there
+/// where it is built, and before the watch's result is rewired it lives, as does what it is to read.
+pub fn each_step_of_a_turning_can_be_made()
+    ensures not_computed { (p : Plan) (is : List LowItem) (ms : List ℕ) (sources : List Now) (old : Graph) (at t1 : Way) (w h : ℕ)
+        → UnderWay p is ms sources old at → IsLeast at w h → IsSet at t1 w → (m : ℕ) → Inside t1.graph (suc w) m → t1.done m ≡ false }
+    ensures clear { (p : Plan) (is : List LowItem) (ms : List ℕ) (sources : List Now) (old : Graph) (at t1 t2 : Way) (w h : ℕ)
+        → UnderWay p is ms sources old at → Leaves at t1 t2 w h → (a b : Low) (env : List Part) → at.graph.kind w ≡ watch a b env → IsClear t2 w env }
+    ensures part { (p : Plan) (is : List LowItem) (ms : List ℕ) (sources : List Now) (old : Graph) (at t1 t2 t3 : Way) (w : ℕ)
+        → UnderWay p is ms sources old at → (c : Rechooses p sources old at t1 t2 t3 w)
+        → (j : ℕ) → Reads j (chosen_part p sources old at t1 t2 t3 w c ∷ []) → t3.graph.live j ≡ true }
+    ensures result { (p : Plan) (is : List LowItem) (ms : List ℕ) (sources : List Now) (old : Graph) (at t1 t2 t3 : Way) (w : ℕ)
+        → UnderWay p is ms sources old at → Rechooses p sources old at t1 t2 t3 w → t3.graph.live (at.graph.result_of w) ≡ true }
 {}

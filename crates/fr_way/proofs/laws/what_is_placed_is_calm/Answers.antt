@@ -1,5 +1,4 @@
-use Rattle.fr_way.proofs.Calm.{place_calm}
-use Rattle.fr_way.proofs.Evals.{plan_calm}
+use Rattle.fr_way.proofs.Calm.{plan_calm, place_calm}
 use Rattle.fr_way.proofs.laws.what_is_placed_is_calm.Goals as goal
 
 pub returns-clause-kernels : goal.returns-clause-kernels
