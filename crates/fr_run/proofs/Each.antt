@@ -37,15 +37,15 @@ next_length (s ∷ ss) [] = refl
 next_length (s ∷ ss) (v ∷ vs) = ap (λ (n : ℕ). suc n) (next_length ss vs)
 
 -- behind an instant of a program there is a value for each of its shows
-pub one_each : (e : Standing) (p : Program) (s : State) (i : Inputs) (shows : List Shown) → IsBehind e p (instant p s i) → AreShowsOf shows p
+pub one_each : (stands_for : State → Type 0) (e : Standing) (p : Program) (s : State) (i : Inputs) (shows : List Shown) → IsBehind stands_for e p (instant p s i) → AreShowsOf shows p
     → length e.shown ≡ length shows
-one_each e p s i shows h k =
+one_each stands_for e p s i shows h k =
     sym (length-map e.shown (λ v. Ok v)) ∙ ap (λ (vs : List Seen). length vs) h.shown ∙ instant_shown p s i ∙ sym k
 
 -- behind an instant there is still one for each show
-pub shows_after : (e : Standing) (p : Program) (n : Instant) (time : ℕ) (shows later : List Shown) (x y : Option (List ℕ)) → Wrote e p n time shows later x y → AreShowsOf shows p
-    → AreShowsOf later e.program
-shows_after e p n time shows later x y w each =
+pub shows_after : (stands_for : State → Type 0) (e : Standing) (p : Program) (n : Instant) (time : ℕ) (shows later : List Shown) (x y : Option (List ℕ))
+    → Wrote stands_for e p n time shows later x y → AreShowsOf shows p → AreShowsOf later e.program
+shows_after stands_for e p n time shows later x y w each =
     ap (λ (ss : List Shown). length ss) w.shows_are ∙ next_length shows n.evaluated.shown ∙ each ∙ ap (λ (q : Program). length (shows_of q.body)) (sym w.behind.program)
 
 -- one more value

@@ -1,5 +1,6 @@
 mod Results
 mod Each
+mod Changes
 mod Readers
 mod Says
 mod Loops

@@ -20,9 +20,9 @@ use Rattle.fr_run.specs.Standing.{Standing, IsBehind, seen_of, IsCause, unfinish
 use Rattle.fr_run.specs.Written.{Wrote, CutShort, StopsIn}
 
 -- the text of what stands behind an instant was written
-pub wrote_all : (e : Standing) (p : Program) (n : Instant) (time : ℕ) (shows later : List Shown) (x y : Option (List ℕ)) → IsBehind e p n
-    → later ≡ next_each shows (seen_of e) → Appends x y (instant_text time shows (seen_of e)) → Wrote e p n time shows later x y
-wrote_all e p n time shows later x y h s w = record {
+pub wrote_all : (stands_for : State → Type 0) (e : Standing) (p : Program) (n : Instant) (time : ℕ) (shows later : List Shown) (x y : Option (List ℕ)) → IsBehind stands_for e p n
+    → later ≡ next_each shows (seen_of e) → Appends x y (instant_text time shows (seen_of e)) → Wrote stands_for e p n time shows later x y
+wrote_all stands_for e p n time shows later x y h s w = record {
   behind = h;
   shows_are = s ∙ ap (λ (vs : List Seen). next_each shows vs) h.shown;
   written = subst (λ (vs : List Seen). Appends x y (instant_text time shows vs)) h.shown w;
@@ -45,9 +45,9 @@ cut_before (Memory e) text rest x y h = subst (λ (z : Option (List ℕ)). StopS
 cut_before other text rest x y h = absurd h
 
 -- what a stop says while the text of an instant is written
-pub cut_says : (stop : Stop) (e : Standing) (p : Program) (s : State) (i : Inputs) (shows : List Shown) (x y : Option (List ℕ)) → IsBehind e p (instant p s i)
+pub cut_says : (stop : Stop) (stands_for : State → Type 0) (e : Standing) (p : Program) (s : State) (i : Inputs) (shows : List Shown) (x y : Option (List ℕ)) → IsBehind stands_for e p (instant p s i)
     → CutShort stop (instant_text i.time shows (seen_of e)) x y → StopsIn stop p s i shows x y
-cut_says stop e p s i shows x y h cut k end is =
+cut_says stop stands_for e p s i shows x y h cut k end is =
     let n = instant p s i in
     let text = instant_text i.time shows n.evaluated.shown in
     let rest = course_of end (next_each shows n.evaluated.shown) (runs_from (k + 1) p (handed_on n) is) in

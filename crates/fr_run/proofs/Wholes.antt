@@ -8,7 +8,7 @@ use Rattle.fr_script.specs.Sources.{Named, sources}
 use Rattle.fr_script.specs.Instants.{BadLine, whole, bad_line}
 use Rattle.fr_meaning.specs.Words.{First}
 use Rattle.fr_meaning.specs.Texts.{Shown, instant_text, next_each}
-use Rattle.fr_meaning.specs.Afresh.{beginning, first_instant, instant}
+use Rattle.fr_meaning.specs.Afresh.{State, beginning, first_instant, handed_on, instant}
 use Rattle.fr_meaning.specs.Runs.{Run, runs_from}
 use Rattle.fr_show.specs.declared.acceptance.AcceptStop.{AcceptStop}
 use Rattle.fr_show.specs.declared.acceptance.AcceptStop.TheVariants as accept
@@ -58,10 +58,10 @@ pub fed_file : (r : ScriptReader) (p q : Program) (seen bytes file : List ℕ) �
 fed_file r p q seen bytes file feeds same items is = subst (λ (o : Program). IsFed r (sources o) file 0) same (feeds file (items ∙ is))
 
 -- a script whose course went to its end was read to its end
-pub read_whole : (e : Standing) (ss : List Named) (file bytes : List ℕ) (given : ℕ) (shows : List Shown) (x y : Option (List ℕ)) (before now : Option ℕ)
-    → bytes ≡ take 1099511627777 file → EndsThere None (course_behind e ss file given shows) x y → ReachesFront before now (length bytes) → ReachesFront before now (length file)
-read_whole e ss file bytes given shows x y before now is ends reached =
-    let good = no_bad (bad_line ss file true) (over_stop (script_end (bad_line ss file true)) shows (runs_from (given + 1) e.program e.state (ahead ss file given)) ends.0) in
+pub read_whole : (p : Program) (s : State) (ss : List Named) (file bytes : List ℕ) (given : ℕ) (shows : List Shown) (x y : Option (List ℕ)) (before now : Option ℕ)
+    → bytes ≡ take 1099511627777 file → EndsThere None (course_behind p s ss file given shows) x y → ReachesFront before now (length bytes) → ReachesFront before now (length file)
+read_whole p s ss file bytes given shows x y before now is ends reached =
+    let good = no_bad (bad_line ss file true) (over_stop (script_end (bad_line ss file true)) shows (runs_from (given + 1) p s (ahead ss file given)) ends.0) in
     subst (λ (b : List ℕ). ReachesFront before now (length b)) (is ∙ good_whole ss file good) reached
 
 -- what a stop says of the rest, it says of the run, once the text of instant 0 was written
@@ -75,43 +75,47 @@ only_unread : (stop : Stop) (y z : Option (List ℕ)) → (stop ≡ Read → z �
 only_unread Read y z unread e = unread refl
 only_unread other y z unread e = cc
 
+-- what instant 0 hands on
+abbrev pub first_state : Program → State
+first_state p = handed_on (instant p (beginning p) first_instant)
+
 -- the text of instant 0, and then the course over the script
-course_first : (p : Program) (e : Standing) (later : List Shown) (x y : Option (List ℕ)) (file : List ℕ)
-    → Wrote e p (instant p (beginning p) first_instant) 0 (shows_of p.body) later x y
+course_first : (p : Program) (stands_for : State → Type 0) (e : Standing) (later : List Shown) (x y : Option (List ℕ)) (file : List ℕ)
+    → Wrote stands_for e p (instant p (beginning p) first_instant) 0 (shows_of p.body) later x y
     → program_course p file true
-    ≡ after (instant_text 0 (shows_of p.body) (instant p (beginning p) first_instant).evaluated.shown ∷ []) (course_behind e (sources e.program) file 0 later)
-course_first p e later x y file w =
-    let before : Standing = record { program = p; state = beginning p; shown = [] } in
+    ≡ after (instant_text 0 (shows_of p.body) (instant p (beginning p) first_instant).evaluated.shown ∷ []) (course_behind e.program (first_state p) (sources e.program) file 0 later)
+course_first p stands_for e later x y file w =
     let text = instant_text 0 (shows_of p.body) (instant p (beginning p) first_instant).evaluated.shown in
-    course_wrote 0 (script_end (bad_line (sources p) file true)) before e first_instant (whole (sources p) file true) (shows_of p.body) later x y w
-    ∙ ap (λ (q : Program). after (text ∷ []) (course_behind e (sources q) file 0 later)) (sym w.behind.program)
+    course_wrote 0 (script_end (bad_line (sources p) file true)) stands_for e p (beginning p) first_instant (whole (sources p) file true) (shows_of p.body) later x y w
+    ∙ ap (λ (q : Program). after (text ∷ []) (course_behind e.program (first_state p) (sources q) file 0 later)) (sym w.behind.program)
 
 -- instant 0 and the rest went to their end
-pub first_ends : (p : Program) (e : Standing) (later : List Shown) (x y z : Option (List ℕ)) (file : List ℕ)
-    → Wrote e p (instant p (beginning p) first_instant) 0 (shows_of p.body) later x y
-    → EndsThere None (course_behind e (sources e.program) file 0 later) y z → EndsThere None (program_course p file true) x z
-first_ends p e later x y z file w ends =
+pub first_ends : (p : Program) (stands_for : State → Type 0) (e : Standing) (later : List Shown) (x y z : Option (List ℕ)) (file : List ℕ)
+    → Wrote stands_for e p (instant p (beginning p) first_instant) 0 (shows_of p.body) later x y
+    → EndsThere None (course_behind e.program (first_state p) (sources e.program) file 0 later) y z → EndsThere None (program_course p file true) x z
+first_ends p stands_for e later x y z file w ends =
     let text = instant_text 0 (shows_of p.body) (instant p (beginning p) first_instant).evaluated.shown in
-    subst (λ (c : Course). EndsThere None c x z) (sym (course_first p e later x y file w)) (ends_after None (text ∷ []) (course_behind e (sources e.program) file 0 later) x y z (appends_one x y text w.written) ends)
+    subst (λ (c : Course). EndsThere None c x z) (sym (course_first p stands_for e later x y file w))
+    (ends_after None (text ∷ []) (course_behind e.program (first_state p) (sources e.program) file 0 later) x y z (appends_one x y text w.written) ends)
 
 -- a stop behind instant 0
-pub first_stops : (stop : Stop) (p : Program) (e : Standing) (later : List Shown) (x y z : Option (List ℕ)) (file : List ℕ)
-    → Wrote e p (instant p (beginning p) first_instant) 0 (shows_of p.body) later x y → (stop ≡ Read → z ≡ y)
-    → StopSays stop (course_behind e (sources e.program) file 0 later) y z → StopSays stop (program_course p file true) x z
-first_stops stop p e later x y z file w unread says =
+pub first_stops : (stop : Stop) (p : Program) (stands_for : State → Type 0) (e : Standing) (later : List Shown) (x y z : Option (List ℕ)) (file : List ℕ)
+    → Wrote stands_for e p (instant p (beginning p) first_instant) 0 (shows_of p.body) later x y → (stop ≡ Read → z ≡ y)
+    → StopSays stop (course_behind e.program (first_state p) (sources e.program) file 0 later) y z → StopSays stop (program_course p file true) x z
+first_stops stop p stands_for e later x y z file w unread says =
     let text = instant_text 0 (shows_of p.body) (instant p (beginning p) first_instant).evaluated.shown in
-    subst (λ (c : Course). StopSays stop c x z) (sym (course_first p e later x y file w))
-    (writes_first (extent_of stop) stop text (course_behind e (sources e.program) file 0 later) x y z w.written (only_unread stop y z unread) says)
+    subst (λ (c : Course). StopSays stop c x z) (sym (course_first p stands_for e later x y file w))
+    (writes_first (extent_of stop) stop text (course_behind e.program (first_state p) (sources e.program) file 0 later) x y z w.written (only_unread stop y z unread) says)
 
 -- behind instant 0 alone
-pub first_begins : (p : Program) (e : Standing) (later : List Shown) (x y z : Option (List ℕ)) (file : List ℕ)
-    → Wrote e p (instant p (beginning p) first_instant) 0 (shows_of p.body) later x y → z ≡ y → Begins (program_course p file true) x z
-first_begins p e later x y z file w same =
+pub first_begins : (p : Program) (stands_for : State → Type 0) (e : Standing) (later : List Shown) (x y z : Option (List ℕ)) (file : List ℕ)
+    → Wrote stands_for e p (instant p (beginning p) first_instant) 0 (shows_of p.body) later x y → z ≡ y → Begins (program_course p file true) x z
+first_begins p stands_for e later x y z file w same =
     let text = instant_text 0 (shows_of p.body) (instant p (beginning p) first_instant).evaluated.shown in
     record {
       text = text;
-      behind = (course_behind e (sources e.program) file 0 later).texts;
-      texts = ap (λ (c : Course). c.texts) (course_first p e later x y file w);
+      behind = (course_behind e.program (first_state p) (sources e.program) file 0 later).texts;
+      texts = ap (λ (c : Course). c.texts) (course_first p stands_for e later x y file w);
       written = subst (λ (o : Option (List ℕ)). Appends x o text) (sym same) w.written;
     }
 

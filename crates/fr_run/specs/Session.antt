@@ -6,23 +6,23 @@ use Rattle.fr_core.specs.declared.program.Program.{Program}
 use Rattle.fr_script.specs.declared.reader.ScriptReader.{ScriptReader}
 use Rattle.fr_script.specs.Sources.{Named, sources}
 use Rattle.fr_meaning.specs.Texts.{Shown}
+use Rattle.fr_meaning.specs.Afresh.{State}
 use Rattle.fr_show.specs.declared.stop.Stop.{Stop}
 use Rattle.fr_show.specs.Accepted.{OnJudged, OnEachJudged}
 use Rattle.fr_show.specs.Course.{Course}
 use Rattle.fr_show.specs.Ends.{SaysOn}
 use Rattle.fr_show.specs.Output.{program_course, course_over}
 use Rattle.fr_run.specs.Scripts.{IsFed}
-use Rattle.fr_run.specs.Standing.{Standing}
 use Rattle.fr_run.specs.Written.{course_behind}
 
--- the fact holds of the course that is ahead of a reader, whatever it was fed
-abbrev pub OnAhead : ScriptReader → Standing → List Shown → (Course → Type 0) → Type 0
-OnAhead r e shows F =
-    (ss : List Named) (script : List ℕ) (given : ℕ) → IsFed r ss script given → F (course_behind e ss script given shows)
+-- the fact holds of the course that is ahead of a reader, whatever it was fed, on from each of these states
+abbrev pub OnAhead : ScriptReader → (State → Type 0) → Program → List Shown → (Course → Type 0) → Type 0
+OnAhead r stands_for p shows F =
+    (s : State) → stands_for s → (ss : List Named) (script : List ℕ) (given : ℕ) → IsFed r ss script given → F (course_behind p s ss script given shows)
 
 -- the fact holds of the course over a script from its first instant on, where the script is told
-abbrev pub OnScript : Option (List ℕ) → Standing → List Shown → (Course → Type 0) → Type 0
-OnScript script e shows F = IfSome script (λ file. F (course_behind e (sources e.program) file 0 shows))
+abbrev pub OnScript : Option (List ℕ) → (State → Type 0) → Program → List Shown → (Course → Type 0) → Type 0
+OnScript script stands_for p shows F = (s : State) → stands_for s → IfSome script (λ file. F (course_behind p s (sources p) file 0 shows))
 
 -- the fact holds of the course of a program over a script, where the script is told
 abbrev pub OnProgram : Option (List ℕ) → Program → (Course → Type 0) → Type 0

@@ -1,30 +1,47 @@
 -- What an evaluator of instants stands for.
-use Rattle.std.specs.Prelude.{ℕ, ◌≡◌, ◌≢◌, List, map, Ok, None}
+use Rattle.std.specs.Prelude.{ℕ, ◌≡◌, ◌≢◌, ◌<◌, ◌⊎◌, List, length, map, slice_get, Contains, Ok, Some, None}
+use Rattle.fr_value.specs.declared.value.Value.{Value}
 use Rattle.fr_value.specs.declared.now.Now.{Now}
+use Rattle.fr_value.specs.declared.now.Now.TheVariants.{Occ}
 use Rattle.fr_core.specs.declared.program.Program.{Program}
 use Rattle.fr_meaning.specs.Words.{Seen}
 use Rattle.fr_meaning.specs.Afresh.{State, Instant, handed_on}
 use Rattle.fr_show.specs.declared.stop.Stop.{Stop}
 use Rattle.fr_show.specs.declared.stop.Stop.TheVariants as stop
+use Rattle.fr_show.specs.Shows.{RiseFrom}
 use Rattle.fr_run.specs.declared.evaluator.InstantStop.{InstantStop}
 use Rattle.fr_run.specs.declared.evaluator.InstantStop.TheVariants.{Memory, Errs}
 
--- a program behind one of its instants: what that hands on, and the values of the shows at it
+-- what an evaluator shows behind an instant: its program, the values of the shows, and the numbers of those that may have changed
 pub record Standing : Type 0 where
   pub program : Program
-  pub state : State
   pub shown : List Now
+  pub changed : List ℕ
 
 -- the values of the shows, of which none errs
 abbrev pub seen_of : Standing → List Seen
 seen_of e = map (λ v. Ok v) e.shown
 
--- it stands behind this instant of a program, in which nothing errs
-pub record IsBehind (e : Standing) (p : Program) (n : Instant) : Type 0 where
+-- what stands for these states and shows this stands behind this instant of a program, in which nothing errs
+pub record IsBehind (stands_for : State → Type 0) (e : Standing) (p : Program) (n : Instant) : Type 0 where
   pub program : e.program ≡ p
-  pub state : e.state ≡ handed_on n
+  pub state : stands_for (handed_on n)
   pub shown : seen_of e ≡ n.evaluated.shown
   pub clean : n.evaluated.first ≡ None
+
+-- there is a state that it stands for
+abbrev pub StandsForSome : (State → Type 0) → Type 0
+StandsForSome stands_for = (s : State) × stands_for s
+
+-- the show with this number has the value that it had, and doesn't occur
+pub record IsAsBefore (before now : List Now) (n : ℕ) : Type 0 where
+  pub same : slice_get now n ≡ slice_get before n
+  pub quiet : (v : Value) → slice_get now n ≢ Some (Occ (Some v))
+
+-- these are numbers of shows, each once and in rising order, and any other show is as it was before
+pub record NamesChanges (before now : List Now) (numbers : List ℕ) : Type 0 where
+  pub rising : RiseFrom 0 (length now) numbers
+  pub others : (n : ℕ) → n < length now → Contains numbers n ⊎ IsAsBefore before now n
 
 -- the instant errs; want of memory tells nothing
 abbrev pub IsCause : InstantStop → Instant → Type 0

@@ -6,12 +6,13 @@ ghost use Rattle.fr_io.specs.Shelves.{Reads};
 ghost use Rattle.fr_core.specs.Sets.{greatest_time};
 ghost use Rattle.fr_core.specs.WellFormed.{IsWellFormed};
 ghost use Rattle.fr_meaning.specs.Texts.{instant_text, next_each};
-ghost use Rattle.fr_meaning.specs.Afresh.{beginning, first_instant, instant as instant_after};
+ghost use Rattle.fr_meaning.specs.Afresh.{State, beginning, first_instant, instant as instant_after};
 ghost use Rattle.fr_show.specs.Ends.{EndsThere, StopSays, Begins};
 ghost use Rattle.fr_show.specs.Output.{program_course};
+ghost use Rattle.fr_show.specs.Shows.{AreAllPrinted};
 ghost use Rattle.fr_run.specs.Scripts.{IsFedSome};
-ghost use Rattle.fr_run.specs.Standing.{seen_of, unfinished};
-ghost use Rattle.fr_run.specs.Written.{AreShowsOf, Wrote, CutShort, StopsIn};
+ghost use Rattle.fr_run.specs.Standing.{StandsForSome, seen_of, unfinished};
+ghost use Rattle.fr_run.specs.Written.{AreShowsOf, HaveTextsOf, Wrote, CutShort, StopsIn};
 ghost use Rattle.fr_run.specs.Session.{OnAhead, OnScript, OnProgram, OnText, TextSays, IsReadToEnd};
 
 use crate::evaluator::{Evaluator, InstantStop};
@@ -22,24 +23,27 @@ use fr_script::ScriptReader;
 use fr_show::{Shows, Stop, accept};
 use std::alloc::Global;
 
-/// Writes the text of the instant of this time that an evaluator stands behind.
+/// Writes the text of the instant of this time that an evaluator stands behind. Only shows that may
+/// have changed are looked at.
 fn write_text<E: Evaluator, O: Sink>(
     evaluator: &E,
     time: u64,
     shows: &mut Shows,
     out: &mut O,
 ) -> Result<(), Stop>
-    requires one_each { length (E.stands evaluator.now).shown ≡ length shows.old }
-    ensures ok { OnOk result (let seen = seen_of (E.stands evaluator.now) in
+    requires one_each { length (E.standing evaluator.now).shown ≡ length shows.old }
+    requires all { let e = E.standing evaluator.now in
+        AreAllPrinted time shows.old e.shown e.changed }
+    ensures ok { OnOk result (let seen = seen_of (E.standing evaluator.now) in
         Appends (O.written out.old) (O.written out.new) (instant_text time shows.old seen)) }
     ensures after { OnOk result (shows.new ≡
-        next_each shows.old (seen_of (E.stands evaluator.now))) }
-    ensures err { IfErr result (λ stop. let seen = seen_of (E.stands evaluator.now) in
+        next_each shows.old (seen_of (E.standing evaluator.now))) }
+    ensures err { IfErr result (λ stop. let seen = seen_of (E.standing evaluator.now) in
         CutShort stop (instant_text time shows.old seen) (O.written out.old) (O.written out.new)) }
     ensures no_read { IsErrOf result Stop.Read → ⊥ }
     ensures counts { Counts (FailsAs result Stop.Write) (O.faults out.old) (O.faults out.new) }
 {
-    let text = match shows.text(time, evaluator.shown()) {
+    let text = match shows.text(time, evaluator.shown(), evaluator.changed()) {
         Ok(text) => text,
         Err(e) => return Err(Stop::Memory(e)),
     };
@@ -72,7 +76,8 @@ fn begin<E: Evaluator, O: Sink>(
     requires one_each { AreShowsOf shows.old program }
     ensures ok { IfOk result (λ e.
         let n = instant_after program (beginning program) first_instant in
-        Wrote (E.stands e) program n 0 shows.old shows.new (O.written out.old) (O.written out.new)) }
+        Wrote (E.stands_for e) (E.standing e) program n 0 shows.old shows.new
+        (O.written out.old) (O.written out.new)) }
     ensures err { IfErr result (λ stop. StopsIn stop program (beginning program) first_instant
         shows.old (O.written out.old) (O.written out.new)) }
     ensures no_read { IsErrOf result Stop.Read → ⊥ }
@@ -95,15 +100,19 @@ fn step<E: Evaluator, O: Sink>(
     shows: &mut Shows,
     out: &mut O,
 ) -> Result<E, Stop>
-    requires well_formed { IsWellFormed (E.stands evaluator).program }
+    requires well_formed { IsWellFormed (E.standing evaluator).program }
     requires time { inputs.now.time ≤ greatest_time }
-    requires one_each { AreShowsOf shows.old (E.stands evaluator).program }
-    ensures ok { IfOk result (λ next. let e = E.stands evaluator in
-        let n = instant_after e.program e.state inputs.now in
-        Wrote (E.stands next) e.program n inputs.now.time shows.old shows.new
+    requires stands { StandsForSome (E.stands_for evaluator) }
+    requires one_each { AreShowsOf shows.old (E.standing evaluator).program }
+    requires texts { HaveTextsOf shows.old (E.standing evaluator) }
+    ensures ok { IfOk result (λ next. (s : State) → E.stands_for evaluator s →
+        let p = (E.standing evaluator).program in
+        let n = instant_after p s inputs.now in
+        Wrote (E.stands_for next) (E.standing next) p n inputs.now.time shows.old shows.new
         (O.written out.old) (O.written out.new)) }
-    ensures err { IfErr result (λ stop. let e = E.stands evaluator in
-        StopsIn stop e.program e.state inputs.now shows.old (O.written out.old) (O.written out.new)) }
+    ensures err { IfErr result (λ stop. (s : State) → E.stands_for evaluator s →
+        StopsIn stop (E.standing evaluator).program s inputs.now shows.old
+        (O.written out.old) (O.written out.new)) }
     ensures no_read { IsErrOf result Stop.Read → ⊥ }
     ensures counts { Counts (FailsAs result Stop.Write) (O.faults out.old) (O.faults out.new) }
 {
@@ -124,12 +133,16 @@ fn run_on<E: Evaluator, O: Sink>(
     shows: &mut Shows,
     out: &mut O,
 ) -> Result<(), Stop>
-    requires well_formed { IsWellFormed (E.stands evaluator).program }
-    requires one_each { AreShowsOf shows.old (E.stands evaluator).program }
+    requires well_formed { IsWellFormed (E.standing evaluator).program }
+    requires stands { StandsForSome (E.stands_for evaluator) }
+    requires one_each { AreShowsOf shows.old (E.standing evaluator).program }
+    requires texts { HaveTextsOf shows.old (E.standing evaluator) }
     requires fed { IsFedSome reader.old }
-    ensures ok { OnOk result (OnAhead reader.old (E.stands evaluator) shows.old
+    ensures ok { OnOk result (OnAhead reader.old (E.stands_for evaluator)
+        (E.standing evaluator).program shows.old
         (λ c. EndsThere None c (O.written out.old) (O.written out.new))) }
-    ensures err { IfErr result (λ stop. OnAhead reader.old (E.stands evaluator) shows.old
+    ensures err { IfErr result (λ stop. OnAhead reader.old (E.stands_for evaluator)
+        (E.standing evaluator).program shows.old
         (λ c. StopSays stop c (O.written out.old) (O.written out.new))) }
     ensures no_read { IsErrOf result Stop.Read → ⊥ }
     ensures counts { Counts (FailsAs result Stop.Write) (O.faults out.old) (O.faults out.new) }
@@ -156,12 +169,15 @@ fn run_script<E: Evaluator, S: Shelf, O: Sink>(
     shelf: &mut S,
     out: &mut O,
 ) -> Result<(), Stop>
-    requires well_formed { IsWellFormed (E.stands evaluator).program }
-    requires one_each { AreShowsOf shows.old (E.stands evaluator).program }
-    ensures ok { OnOk result (OnScript (S.holds shelf.old script.now) (E.stands evaluator) shows.old
+    requires well_formed { IsWellFormed (E.standing evaluator).program }
+    requires stands { StandsForSome (E.stands_for evaluator) }
+    requires one_each { AreShowsOf shows.old (E.standing evaluator).program }
+    requires texts { HaveTextsOf shows.old (E.standing evaluator) }
+    ensures ok { OnOk result (OnScript (S.holds shelf.old script.now) (E.stands_for evaluator)
+        (E.standing evaluator).program shows.old
         (λ c. EndsThere None c (O.written out.old) (O.written out.new))) }
     ensures err { IfErr result (λ stop. OnScript (S.holds shelf.old script.now)
-        (E.stands evaluator) shows.old
+        (E.stands_for evaluator) (E.standing evaluator).program shows.old
         (λ c. StopSays stop c (O.written out.old) (O.written out.new))) }
     ensures to_end { OnOk result (IsReadToEnd script.now (S.holds shelf.old)
         (S.reached shelf.old) (S.reached shelf.new)) }

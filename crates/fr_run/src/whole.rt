@@ -1,23 +1,26 @@
 //! Evaluation of the whole program afresh at every instant.
 
-ghost use Rattle.std.specs.Prelude.{◌≡◌, ℕ, IfOk, IfErr};
+ghost use Rattle.std.specs.Prelude.{◌≡◌, ℕ, List, IfOk, IfErr};
 ghost use Rattle.fr_meaning.specs.Afresh.{Instant};
 ghost use Rattle.fr_afresh.specs.Stands.{shown_of, Leaves, ErrsBy};
-ghost use Rattle.fr_run.specs.Standing.{IsBehind, IsCause};
-ghost use Rattle.fr_run.specs.Whole.{standing_of};
+ghost use Rattle.fr_run.specs.Standing.{IsBehind, NamesChanges, IsCause};
+ghost use Rattle.fr_run.specs.Whole.{standing_of, IsItsState};
 
 use crate::evaluator::{Evaluator, InstantStop};
 use fr_afresh::{Afresh, AfreshStop};
 use fr_core::{Inputs, Program, Sets};
+use fr_show::all_numbers;
 use fr_value::Now;
 use std::alloc::{AllocError, Global};
 
-/// A program of which the whole is evaluated at every instant, with the values of its shows.
+/// A program of which the whole is evaluated at every instant, with the values of its shows, any of
+/// which may have changed.
 #[derive(Drop)]
 pub struct WholeEvaluator {
     alloc: Global,
     afresh: Afresh,
     shown: Vec<Now>,
+    changed: Vec<usize>,
 }
 
 /// The values of all shows, in program order.
@@ -47,7 +50,9 @@ fn stand_behind(
     evaluated: Result<Afresh, AfreshStop>,
 ) -> Result<WholeEvaluator, InstantStop>
     ensures ok { IfOk result (λ e. (p : Program) (n : Instant) →
-        IfOk evaluated (λ a. Leaves a p n) → IsBehind (standing_of e) p n) }
+        IfOk evaluated (λ a. Leaves a p n) → IsBehind (IsItsState e) (standing_of e) p n) }
+    ensures changed { IfOk result (λ e. (before : List Now) →
+        NamesChanges before (standing_of e).shown (standing_of e).changed) }
     ensures err { IfErr result (λ stop. (time : ℕ) (n : Instant) →
         IfErr evaluated (λ s. ErrsBy s time n) → IsCause stop n) }
 {
@@ -55,20 +60,22 @@ fn stand_behind(
         Ok(afresh) => afresh,
         Err(stop) => return Err(stop_of(stop)),
     };
-    match shown_values(alloc, &afresh) {
-        Ok(shown) => Ok(WholeEvaluator {
-            alloc,
-            afresh,
-            shown,
-        }),
-        Err(e) => Err(InstantStop::Memory(e)),
-    }
+    let shown = shown_values(alloc, &afresh)?;
+    let changed = all_numbers(alloc, shown.len())?;
+    Ok(WholeEvaluator {
+        alloc,
+        afresh,
+        shown,
+        changed,
+    })
 }
 
 impl Evaluator for WholeEvaluator {
-    ghost use Rattle.fr_run.specs.Whole.{standing_of};
+    ghost use Rattle.fr_run.specs.Whole.{standing_of, IsItsState};
 
-    ghost stands = { standing_of };
+    ghost standing = { standing_of };
+
+    ghost stands_for = { IsItsState };
 
     fn start(alloc: Global, program: Program) -> Result<WholeEvaluator, InstantStop> {
         let first = Inputs {
@@ -83,12 +90,17 @@ impl Evaluator for WholeEvaluator {
             alloc,
             afresh,
             shown: _shown,
+            changed: _changed,
         } = self;
         stand_behind(alloc, afresh.instant(inputs))
     }
 
     fn shown(&self) -> &[Now] {
         self.shown.as_slice()
+    }
+
+    fn changed(&self) -> &[usize] {
+        self.changed.as_slice()
     }
 
     fn program(&self) -> &Program {

@@ -2,4 +2,6 @@ pub mod Verdicts
 pub mod Writing
 pub mod Courses
 pub mod Judged
-pub mod Kept
+pub mod Numbers
+pub mod Numbered
+pub mod Keeping

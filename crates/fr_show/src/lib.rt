@@ -8,5 +8,5 @@ mod stop;
 
 pub use acceptance::{AcceptStop, PROGRAM_LIMIT, accept, program_from, read_forms};
 pub use laws::{front_decides, verdict_is_one};
-pub use shows::Shows;
+pub use shows::{Shows, all_numbers};
 pub use stop::{ProgramKind, Stop};

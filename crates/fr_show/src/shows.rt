@@ -1,9 +1,10 @@
 //! The shows of a program: what an instant prints of their values, and the last plain text of each.
 
-ghost use Rattle.std.specs.Prelude.{◌≡◌, ◌<◌, ◌++◌, ◌∷◌, [], List, ℕ, None, Some, Ok, length, map, IfOk, OnOk, OnErr, MatchOption};
+ghost use Rattle.std.specs.Prelude.{◌≡◌, ◌<◌, ◌++◌, ◌∷◌, [], List, ℕ, None, Some, Ok, length, slice_set, map, IfOk, OnOk, OnErr, MatchOption};
+ghost use Rattle.std.specs.List.{flat_map, range_with_len};
 ghost use Rattle.fr_meaning.specs.Texts.{line, value_text, unless_last, shown_text, instant_text, next_each};
 ghost use Rattle.fr_show.specs.Output.{shows_of};
-ghost use Rattle.fr_show.specs.Shows.{plain_text, kept, kept_each, last_at};
+ghost use Rattle.fr_show.specs.Shows.{plain_text, kept, last_at, RiseFrom, show_at, value_at, text_at, kept_at, AreAllPrinted};
 
 use fr_core::{Item, Program};
 use fr_value::{Now, Symbol, Value, text_into};
@@ -63,11 +64,11 @@ impl Model for Shows {
     ghost view = { λ s. s.shows.items };
 }
 
-/// What an instant prints, and the texts that are kept of it.
+/// What an instant prints of some shows, and the texts that are kept of it.
 #[derive(Drop)]
 struct Printed {
     bytes: Vec<u8>,
-    // for each show, the text of its value where that is plain
+    // for each of these shows, the text of its value where that is plain
     texts: Vec<Option<Text>>,
 }
 
@@ -175,25 +176,51 @@ fn push_show(
     }
 }
 
-/// What is printed of all shows, each with its value.
+/// Adds what is printed of the show with a number, and the text that is kept of it.
+fn print_show(
+    alloc: Global,
+    printed: &mut Printed,
+    time: u64,
+    shows: &[Show],
+    values: &[Now],
+    number: usize,
+) -> Result<(), AllocError>
+    requires one_each { length values.now ≡ length shows.now }
+    requires within { number < length shows.now }
+    ensures bytes { OnOk result (printed.new.bytes.items ≡ printed.old.bytes.items ++
+        text_at time shows.now values.now number) }
+    ensures texts { OnOk result (printed.new.texts.items ≡ printed.old.texts.items ++
+        plain_text (value_at values.now number) ∷ []) }
+{
+    let show = &shows[number];
+    let text = push_show(alloc, &mut printed.bytes, time, show, &values[number])?;
+    printed.texts.push(text)?;
+    Ok(())
+}
+
+/// What is printed of the shows with these numbers, each with its value.
 fn print_shows(
     alloc: Global,
     time: u64,
     shows: &[Show],
     values: &[Now],
+    numbers: &[usize],
 ) -> Result<Printed, AllocError>
     requires one_each { length values.now ≡ length shows.now }
+    requires rising { RiseFrom 0 (length shows.now) numbers.now }
     ensures bytes { IfOk result (λ p. p.bytes.items ≡
-        instant_text time shows.now (map (λ v. Ok v) values.now)) }
-    ensures texts { IfOk result (λ p. p.texts.items ≡ map plain_text values.now) }
+        flat_map (text_at time shows.now values.now) numbers.now) }
+    ensures texts { IfOk result (λ p. p.texts.items ≡
+        map (λ n. plain_text (value_at values.now n)) numbers.now) }
 {
-    let mut bytes = Vec::new(alloc);
-    let mut texts = Vec::new(alloc);
-    for (at, show) in shows.iter().enumerate() {
-        let text = push_show(alloc, &mut bytes, time, show, &values[at])?;
-        texts.push(text)?;
+    let mut printed = Printed {
+        bytes: Vec::new(alloc),
+        texts: Vec::new(alloc),
+    };
+    for number in numbers {
+        print_show(alloc, &mut printed, time, shows, values, *number)?;
     }
-    Ok(Printed { bytes, texts })
+    Ok(printed)
 }
 
 /// Keeps a text, if there is one, as the show's last.
@@ -205,22 +232,43 @@ fn keep(show: &mut Show, text: &mut Option<Text>)
     }
 }
 
-/// Keeps the texts as the last of their shows. It takes no memory.
-fn keep_each(shows: &mut [Show], texts: &mut [Option<Text>])
-    requires one_each { length texts.old ≡ length shows.old }
-    ensures { shows.new ≡ kept_each shows.old texts.old }
+/// Keeps a text, if there is one, as the last of the show with a number.
+fn keep_at(shows: &mut [Show], number: usize, text: &mut Option<Text>)
+    requires within { number < length shows.old }
+    ensures { shows.new ≡ slice_set shows.old number (kept (show_at shows.old number) text.old) }
 {
-    for (at, show) in shows.iter_mut().enumerate() {
-        keep(show, &mut texts[at]);
+    keep(&mut shows[number], text);
+}
+
+/// Keeps the texts as the last of the shows with these numbers. It takes no memory.
+fn keep_each(shows: &mut [Show], numbers: &[usize], texts: &mut [Option<Text>])
+    requires one_each { length texts.old ≡ length numbers.now }
+    requires rising { RiseFrom 0 (length shows.old) numbers.now }
+    ensures { shows.new ≡ kept_at shows.old numbers.now texts.old }
+{
+    for (at, number) in numbers.iter().enumerate() {
+        keep_at(shows, *number, &mut texts[at]);
     }
 }
 
-/// The same for all shows of a vector.
-fn keep_all(shows: &mut Vec<Show>, texts: &mut [Option<Text>])
-    requires one_each { length texts.old ≡ length shows.old.items }
-    ensures { shows.new.items ≡ kept_each shows.old.items texts.old }
+/// The same for shows of a vector.
+fn keep_all(shows: &mut Vec<Show>, numbers: &[usize], texts: &mut [Option<Text>])
+    requires one_each { length texts.old ≡ length numbers.now }
+    requires rising { RiseFrom 0 (length shows.old.items) numbers.now }
+    ensures { shows.new.items ≡ kept_at shows.old.items numbers.now texts.old }
 {
-    keep_each(shows.as_mut_slice(), texts);
+    keep_each(shows.as_mut_slice(), numbers, texts);
+}
+
+/// The numbers of so many shows, in rising order. It fails only for want of memory.
+pub fn all_numbers(alloc: Global, count: usize) -> Result<Vec<usize>, AllocError>
+    ensures { IfOk result (λ numbers. numbers.items ≡ range_with_len 0 count) }
+{
+    let mut numbers = Vec::new(alloc);
+    for number in 0..count {
+        numbers.push(number)?;
+    }
+    Ok(numbers)
 }
 
 /// Adds the show that an item is, if it is one.
@@ -265,20 +313,28 @@ impl Shows {
         Ok(Shows { alloc, shows })
     }
 
-    /// The text of an instant at which the shows have these values, in the program's order. An occurrence is always
-    /// printed, and a plain value where its text isn't the last plain text of its show, which it then is.
+    /// The text of an instant at which the shows have these values, in the program's order. An
+    /// occurrence is always printed, and a plain value where its text isn't the last plain text of
+    /// its show, which it then is.
     ///
-    /// After want of memory the shows are unchanged.
-    #[tactic(auto, using(crate::proofs::Kept::texts_kept))]
-    pub fn text(&mut self, time: u64, values: &[Now]) -> Result<Vec<u8>, AllocError>
+    /// Shows count from 0. Only those with these numbers are looked at, and it takes no time but for
+    /// them: nothing is to be printed of any other. After want of memory the shows are unchanged.
+    #[tactic(auto, using(crate::proofs::Numbered::text_is, crate::proofs::Keeping::kept_is))]
+    pub fn text(
+        &mut self,
+        time: u64,
+        values: &[Now],
+        numbers: &[usize],
+    ) -> Result<Vec<u8>, AllocError>
         requires one_each { length values.now ≡ length self.old }
+        requires all { AreAllPrinted time self.old values.now numbers.now }
         ensures text { IfOk result (λ t. t.items ≡
             instant_text time self.old (map (λ v. Ok v) values.now)) }
         ensures after { OnOk result (self.new ≡ next_each self.old (map (λ v. Ok v) values.now)) }
         ensures err { OnErr result (self.new ≡ self.old) }
     {
-        let mut printed = print_shows(self.alloc, time, &self.shows, values)?;
-        keep_all(&mut self.shows, &mut printed.texts);
+        let mut printed = print_shows(self.alloc, time, &self.shows, values, numbers)?;
+        keep_all(&mut self.shows, numbers, &mut printed.texts);
         Ok(printed.bytes)
     }
 

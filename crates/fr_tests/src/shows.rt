@@ -1,7 +1,7 @@
 use crate::told::Told;
 use fr_core::Program;
 use fr_reader::read_all;
-use fr_show::{Shows, accept};
+use fr_show::{Shows, accept, all_numbers};
 use fr_value::{Now, Value};
 use std::alloc::{AllocError, Global};
 
@@ -31,15 +31,19 @@ fn tell_text(out: &mut Told, text: Result<Vec<u8>, AllocError>) {
     }
 }
 
-fn tell_states(out: &mut Told, shows: &mut Shows, time: u64, states: &[Now]) {
-    if states.len() == shows.len() {
-        tell_text(out, shows.text(time, states));
+fn tell_states(alloc: Global, out: &mut Told, shows: &mut Shows, time: u64, states: &[Now]) {
+    if states.len() != shows.len() {
+        return;
+    }
+    match all_numbers(alloc, states.len()) {
+        Ok(numbers) => tell_text(out, shows.text(time, states, &numbers)),
+        Err(_) => out.lacks(),
     }
 }
 
 fn tell_data(alloc: Global, out: &mut Told, shows: &mut Shows, time: u64, data: &[Value]) {
     match states(alloc, data) {
-        Ok(states) => tell_states(out, shows, time, &states),
+        Ok(states) => tell_states(alloc, out, shows, time, &states),
         Err(_) => out.lacks(),
     }
 }
