@@ -169,7 +169,7 @@ two_parts all p q a b n hb ha =
     whole ∙ ap (λ l. (l ++ a ∷ []) ++ b ∷ []) (none_more q (omega (arith, n, long)))
 
 grows_counted : (old new : Made) → new ≡ record old { sites = old.sites + 1 } → Grows old new
-grows_counted old new h = subst (Grows old) (sym h) (record { functions = refl; kernels = λ id k s. s; sites = omega arith })
+grows_counted old new h = subst (Grows old) (sym h) (record { functions = refl; sound = λ s. s; kernels = λ id k s. s; sites = omega arith })
 
 pub built_if : (p : Program) (o : Option Classes) (n : ℕ) (old new : Made) (e x y z : Core) (all : List Low) (s : SiteId) (a b c : Low) → e ≡ core.If x y z → all ≡ a ∷ b ∷ c ∷ [] → s.0 ≡ old.sites → new ≡ record old { sites = old.sites + 1 }
     → joins p o e ≡ false → WasBuilt p o n old new e all (low.If s a b c)

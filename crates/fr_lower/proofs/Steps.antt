@@ -15,10 +15,10 @@ use Rattle.fr_lower.proofs.Joining.{joins-opens, found_ready}
 use Rattle.fr_lower.proofs.Rows.{closed_made, chained_to, whole_made}
 
 pub grows_refl : (m : Made) → Grows m m
-grows_refl m = record { functions = refl; kernels = λ id k h. h; sites = omega arith }
+grows_refl m = record { functions = refl; sound = λ s. s; kernels = λ id k h. h; sites = omega arith }
 
 pub grows_more : (a b c : Made) → Grows a b → Grows b c → Grows a c
-grows_more a b c g h = record { functions = h.functions ∙ g.functions; kernels = λ id k s. h.kernels id k (g.kernels id k s); sites = omega (arith, g.sites, h.sites) }
+grows_more a b c g h = record { functions = h.functions ∙ g.functions; sound = λ s. h.sound (g.sound s); kernels = λ id k s. h.kernels id k (g.kernels id k s); sites = omega (arith, g.sites, h.sites) }
 
 -- what was found of the first parts of an expression, where these are left
 pub record Gathers (p : Program) (o : Option Classes) (n : ℕ) (old now : Made) (e : Core) (found : List (Option Low)) (joined : Bool) (left : List (ℕ × Core)) : Type 0 where

@@ -20,7 +20,7 @@ use Rattle.fr_purity.proofs.ClassLemmas.{is_pure_expr}
 use Rattle.fr_kernel.specs.Kernels.{Kernel, Kernels}
 use Rattle.fr_kernel.specs.Erasure.{Place, Everywhere, EverywhereIn, erase, erased_function, erased_item, item_places, top_places, AllFit, CollapsesRegions, CollapsesNothing, is_collapsed, is_compound}
 use Rattle.fr_lower.specs.declared.making.Made.{Made}
-use Rattle.fr_lower.specs.Making.{joins, Extends, Grows, HasSites, IsPlaced, WasMade}
+use Rattle.fr_lower.specs.Making.{joins, Extends, Grows, HasSoundKernels, HasSites, IsPlaced, WasMade}
 use Rattle.fr_lower.specs.Tops.{AreFunctions, IsItem, expr_of_item, item_binds, AreItems, WasItem, WereFunctions, WereItems, IsLowered}
 use Rattle.fr_lower.proofs.Ranges.{Ranged, ranged_append, ranged_once}
 use Rattle.fr_lower.proofs.Steps.{grows_refl, grows_more}
@@ -165,9 +165,9 @@ items_ranged p o ks n from to (x ∷ xs) [] h = absurd h
 items_ranged p o ks n from to (x ∷ xs) (l ∷ ls) h = (h.0, (item_sites p o ks n from h.0 x l h.1.0, items_ranged p o ks (n + item_binds x) h.0 to xs ls h.1.1))
 
 -- functions and items that were lowered one after the other are a lowered program
-pub lowered_whole : (p : Program) (o : Option Classes) (first mid last : Made) (l : Lowered) → first.table.functions ≡ p.functions → l.inputs ≡ p.inputs → l.events ≡ p.events → WereFunctions p o first mid l.functions → WereItems p o mid last l.body
+pub lowered_whole : (p : Program) (o : Option Classes) (first mid last : Made) (l : Lowered) → first.table.functions ≡ p.functions → HasSoundKernels first.table → l.inputs ≡ p.inputs → l.events ≡ p.events → WereFunctions p o first mid l.functions → WereItems p o mid last l.body
     → IsLowered p o l last.table
-lowered_whole p o first mid last l same inputs events f b =
+lowered_whole p o first mid last l same none inputs events f b =
     let ks = last.table.kernels in
     let functions = f.later ks b.grows.kernels in
     let items = b.later ks (λ id k s. s) in
@@ -179,6 +179,7 @@ lowered_whole p o first mid last l same inputs events f b =
     record {
       erasure = λ i. record { inputs = inputs i; events = events i; functions = functions_same i; body = items_same i };
       functions = b.grows.functions ∙ (f.grows.functions ∙ same);
+      sound = b.grows.sound (f.grows.sound none);
       placed = record { each = tops_at (IsPlaced p o ks) (top_places l) placed };
       sites = record { once = ranged_once first.sites last.sites (bodies l) ranged };
     }

@@ -14,7 +14,7 @@ use Rattle.fr_core.specs.Shapes.{outer, inner}
 use Rattle.fr_core.specs.Sites.{parts, below, site_of}
 use Rattle.fr_purity.specs.declared.classification.Classes.{Classes}
 use Rattle.fr_purity.specs.Marks.{set_of, AreClasses}
-use Rattle.fr_kernel.specs.Kernels.{Kernel, kernel_for}
+use Rattle.fr_kernel.specs.Kernels.{Kernel, Kernels, kernel_for}
 use Rattle.fr_kernel.specs.Purity.{IsPureOver}
 use Rattle.fr_kernel.specs.Slots.{slots_of}
 use Rattle.fr_kernel.specs.Erasure.{erase, inner_low, Place, Everywhere, FitsPlace, is_collapsed, is_compound, is_compound_in}
@@ -62,9 +62,19 @@ part_seen part = (part.binds, part.expr.now)
 abbrev pub Extends : List Kernel → List Kernel → Type 0
 Extends old new = (id : ℕ) (k : Kernel) → slice_get old id ≡ Some k → slice_get new id ≡ Some k
 
--- more was made: no kernel has changed, and no site's number comes again
+-- a kernel is that of a pure expression, and its slots are those that the expression needs
+pub record IsSoundKernel (fs : List Function) (k : Kernel) : Type 0 where
+  pub pure : IsPureOver fs k.expr
+  pub slots : k.slots ≡ slots_of k.first k.expr
+
+-- so is each kernel of a table
+pub record HasSoundKernels (t : Kernels) : Type 0 where
+  pub each : (id : ℕ) (k : Kernel) → slice_get t.kernels id ≡ Some k → IsSoundKernel t.functions k
+
+-- more was made: no kernel has changed, each further one is sound, and no site's number comes again
 pub record Grows (old new : Made) : Type 0 where
   pub functions : new.table.functions ≡ old.table.functions
+  pub sound : HasSoundKernels old.table → HasSoundKernels new.table
   pub kernels : Extends old.table.kernels new.table.kernels
   pub sites : old.sites ≤ new.sites
 

@@ -15,7 +15,7 @@ use Rattle.fr_kernel.specs.Kernels.{Kernel, Kernels}
 use Rattle.fr_kernel.specs.Erasure.{erased, EverywhereIn}
 use Rattle.fr_lower.specs.declared.making.Made.{Made}
 use Rattle.fr_lower.specs.Chains.{Chained}
-use Rattle.fr_lower.specs.Making.{Extends, Grows, IsMade, IsPlaced}
+use Rattle.fr_lower.specs.Making.{Extends, Grows, HasSoundKernels, IsMade, IsPlaced}
 
 -- the lowered function was made of the function
 pub record IsFunction (p : Program) (o : Option Classes) (ks : List Kernel) (from to : ℕ) (f : Function) (l : LowFunction) : Type 0 where
@@ -70,5 +70,6 @@ pub record WereItems (p : Program) (o : Option Classes) (old new : Made) (ls : L
 pub record IsLowered (p : Program) (o : Option Classes) (l : Lowered) (t : Kernels) : Type 0 where
   pub erasure : erased t.kernels l ≡ p
   pub functions : t.functions ≡ p.functions
+  pub sound : HasSoundKernels t
   pub placed : EverywhereIn (IsPlaced p o t.kernels) l
   pub sites : HasSitesOnce l

@@ -3,7 +3,7 @@ ghost use Rattle.fr_core.specs.Classes.{IsFit};
 ghost use Rattle.fr_core.specs.Sites.{HasSitesOnce};
 ghost use Rattle.fr_kernel.specs.Erasure.{erased, AllFit, CollapsesRegions, CollapsesNothing};
 ghost use Rattle.fr_purity.specs.Marks.{AreClasses};
-ghost use Rattle.fr_lower.specs.Making.{given, AreGiven};
+ghost use Rattle.fr_lower.specs.Making.{given, AreGiven, HasSoundKernels};
 ghost use Rattle.fr_lower.specs.Tops.{IsLowered};
 
 use crate::copying::{copy_events, copy_inputs};
@@ -52,6 +52,7 @@ pub fn plain(alloc: Global, program: &Program) -> Result<(Lowered, KernTable), A
     ensures erasure { IfOk result (λ r. erased r.1.kernels r.0 ≡ program.now) }
     ensures functions { IfOk result (λ r. r.1.functions ≡ program.now.functions) }
     ensures kernels { IfOk result (λ r. AllFit r.1.kernels r.0) }
+    ensures sound { IfOk result (λ r. HasSoundKernels r.1) }
     ensures regions { IfOk result (λ r. CollapsesNothing r.0) }
     ensures sites { IfOk result (λ r. HasSitesOnce r.0) }
 {
@@ -75,6 +76,7 @@ pub fn lower(
     ensures erasure { IfOk result (λ r. erased r.1.kernels r.0 ≡ program.now) }
     ensures functions { IfOk result (λ r. r.1.functions ≡ program.now.functions) }
     ensures kernels { IfOk result (λ r. AllFit r.1.kernels r.0) }
+    ensures sound { IfOk result (λ r. HasSoundKernels r.1) }
     ensures regions { IfOk result (λ r. CollapsesRegions program.now r.1.kernels r.0) }
     ensures sites { IfOk result (λ r. HasSitesOnce r.0) }
 {

@@ -1,5 +1,6 @@
 use Rattle.std.proofs.Common.{None}
 use Rattle.fr_kernel.specs.Erasure.{AllFit, CollapsesNothing}
+use Rattle.fr_lower.specs.Making.{HasSoundKernels}
 use Rattle.fr_lower.specs.Tops.{IsLowered}
 use Rattle.fr_lower.proofs.Added.{if_ok}
 use Rattle.fr_lower.proofs.Whole.{all_fit, collapses_nothing}
@@ -10,3 +11,6 @@ returns-clause-kernels c = if_ok (λ r. IsLowered c.args.program.now None r.0 r.
 
 pub returns-clause-regions : goal.returns-clause-regions
 returns-clause-regions c = if_ok (λ r. IsLowered c.args.program.now None r.0 r.1) (λ r. CollapsesNothing r.0) c.lowered_with.result (λ r h. collapses_nothing c.args.program.now r.0 r.1 h) c.lowered_with.ensures
+
+pub returns-clause-sound : goal.returns-clause-sound
+returns-clause-sound c = if_ok (λ r. IsLowered c.args.program.now None r.0 r.1) (λ r. HasSoundKernels r.1) c.lowered_with.result (λ r h. h.sound) c.lowered_with.ensures
