@@ -1,6 +1,8 @@
-//! What building asks of a graph of signals: that nodes can be made in it.
+//! What building and the running of instants ask of a graph of signals.
 #![tactic(auto)]
 
 mod nodes;
+mod signals;
 
 pub use nodes::{Nodes, Switch};
+pub use signals::Signals;

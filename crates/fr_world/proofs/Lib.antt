@@ -1,0 +1,14 @@
+pub mod Added
+pub mod Calls
+pub mod Changes
+pub mod Heights
+pub mod Killed
+pub mod Lists
+pub mod Made
+pub mod Nodes
+pub mod Queuing
+pub mod Raised
+pub mod Sourced
+pub mod Switched
+pub mod Whole
+pub mod Written
