@@ -1,0 +1,4 @@
+pub mod Ready
+pub mod Planning
+pub mod Switches
+pub mod Seen
