@@ -1,0 +1,10 @@
+use Rattle.std.proofs.Common.{◌≡◌, ℕ, take}
+use Rattle.fr_nodes.specs.Kinds.{Sites}
+use Rattle.fr_engine.specs.Latching.{Latched}
+use Rattle.fr_engine.proofs.latching.latch_all.Given as goal
+
+abbrev pub invariant-loop-id : goal.invariant-loop-id
+invariant-loop-id g l = record {
+  latched : (sites : Sites) → Latched (g.N.Nodes.way l.fn.nodes sites) (g.N.Nodes.way l.nodes sites) (take l.id-index l.late);
+  eras : (x : ℕ) → g.N.Nodes.has_era l.nodes x ≡ g.N.Nodes.has_era l.fn.nodes x;
+}

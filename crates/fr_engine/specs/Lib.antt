@@ -1,0 +1,9 @@
+pub mod Rules
+pub mod Notes
+pub mod Latching
+pub mod Beginning
+pub mod Ending
+pub mod Moment
+pub mod Stops
+pub mod Choices
+pub mod Turning
