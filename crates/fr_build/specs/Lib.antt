@@ -1,0 +1,4 @@
+pub mod Ready
+pub mod Stops
+pub mod Builds
+pub mod Works
