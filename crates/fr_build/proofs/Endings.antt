@@ -1,6 +1,7 @@
 -- What the other functions of the walk come to: a choice, further parts, forms with slots, a feedback and the leaves.
 use Rattle.std.proofs.Common.{◌≡◌, ◌≢◌, ◌⊎◌, inl, inr, ℕ, zero, suc, ◌+◌, ◌-◌, ◌<◌, ◌≤◌, Bool, true, false, List, [], ◌∷◌, ◌++◌, length, take, map, slice_get, slice_index_or, Option, Some, None, Result, Ok, Err, refl, ap, sym, ◌∙◌, subst, length-append, arith}
 use Rattle.std.proofs.lemmas.List.{map-append, length-map}
+use Rattle.std.specs.Result.{IfOk, IfErr}
 use Rattle.fr_value.specs.declared.now.Held.{Held}
 use Rattle.fr_value.specs.declared.now.Held.TheVariants.{Steady, Signal}
 use Rattle.fr_value.specs.declared.value.Value.{Value}
@@ -9,6 +10,7 @@ use Rattle.fr_value.specs.declared.ids.KernId.{KernId}
 use Rattle.fr_value.specs.declared.ids.SiteId.{SiteId}
 use Rattle.fr_value.specs.declared.ids.SrcId.{SrcId}
 use Rattle.fr_value.specs.declared.ids.VarId.{VarId}
+use Rattle.fr_prims.specs.Data.{is_true}
 use Rattle.fr_core.specs.declared.core_form.Handler.{Handler}
 use Rattle.fr_core.specs.declared.core_form.Loop.{Loop}
 use Rattle.fr_core.specs.declared.lowered.Low.{Low, out-Low}
@@ -27,7 +29,7 @@ use Rattle.fr_events.specs.Works.{HasKernel}
 use Rattle.fr_nodes.specs.Kinds.{Sites, part_of, parts_of}
 use Rattle.fr_nodes.specs.Makes.{AreThere, Makes, MakesSwitch, Ties}
 use Rattle.fr_build.specs.Ready.{Planned, plan_of, IsReady, AreReady, IsReadyAt, IsGround, IsPlanReady, AreSlotsIn, NamesInScope, LiveAreTaken}
-use Rattle.fr_build.specs.Builds.{InReach, Grew, BuildsExpr, BuildsParts, BuildsWork, ExprStops, PartsStop, WorkStops, MayBuild, ExprMade, ExprOutcome, PartsMade, PartsOutcome}
+use Rattle.fr_build.specs.Builds.{InReach, Grew, BuildsExpr, BuildsParts, BuildsWork, ExprStops, PartsStop, WorkStops, MayBuild, ExprMade, ExprOutcome, PartsMade, PartsOutcome, Chooses, ChoosesBy}
 use Rattle.fr_build.specs.Stops.{StopsWhere}
 use Rattle.fr_build.specs.declared.stops.BuildStop.{BuildStop}
 use Rattle.fr_build.proofs.Grown.{grew_live}
@@ -38,6 +40,24 @@ use Rattle.fr_build.proofs.Forms.{literal_built, variable_built, source_built, y
 use Rattle.fr_build.proofs.Switches.{region_built, switch_built, none_built, snoc_built}
 use Rattle.fr_build.proofs.Stopped.{test_stop, yes_stop, no_stop, handler_parts_stop, handler_stop, loop_parts_stop, loop_stop, region_stop, init_stop, fed_stop, one_stop}
 use Rattle.fr_build.proofs.Outcomes.{no_sites, ground_on, inner_parts, cut_back}
+
+pub item_at : (es : List Low) (i : ℕ) (d : Low) → i < length es → slice_get es i ≡ Some (slice_index_or es i d)
+item_at [] i d lt = absurd (omega arith)
+item_at (e ∷ es) zero d lt = refl
+item_at (e ∷ es) (suc i) d lt = let less : i < length es = omega arith in item_at es i d less
+
+-- one level deeper, for another way to say the same expression
+pub step_may : (planned : Planned) (n x k : ℕ) (way : Sites → Way) (has_era : ℕ → Bool) (env : List Part) (e d : Low) → n ≢ 0 → e ≡ d → MayBuild 2001 planned n x way has_era env (IsReady planned k e)
+    → MayBuild 2000 planned (n - 1) x way has_era env (IsReady planned k d)
+step_may planned n x k way has_era env e d some same m = record {
+  levels = let le : n ≤ 2001 = m.levels in omega arith;
+  plan = m.plan;
+  ground = m.ground;
+  fits = subst (IsReady planned k) same m.fits;
+}
+
+pub one_less : (n : ℕ) → n ≢ 0 → suc (n - 1) ≡ n
+one_less n some = omega arith
 
 module _ (planned : Planned) (n x : ℕ) (scope after : List Held) (old new : Sites → Way) (was now : ℕ → Bool) where
   -- ONE PART WAS BUILT
@@ -110,6 +130,32 @@ module _ (planned : Planned) (n x : ℕ) (scope after : List Held) (old new : Si
       let built = f.builds (no_sites e) in
       no_stop planned n (parts_of scope) s e site test a b (plain v) built.added o told built.placed (subst (λ (l : List Held). ExprStops planned n b (parts_of l) s) f.env h)
 
+  -- what the test chose
+  pub chosen_may_build : (e : Low) (site : SiteId) (test a b c : Low) (v : Value) → out-Low e ≡ Low-F.If site test a b → MayBuild 2000 planned n x old was (parts_of scope) (IsReady planned (length scope) e)
+      → ExprMade planned x n test scope after old new was now (Steady v) → Chooses (plain v) a b c → MayBuild 2001 planned n x new now (parts_of after) (IsReady planned (length after) c)
+  chosen_may_build e site test a b c v o m f ch = by_test (is_true v) ch
+    where
+      by_test : (t : Bool) → ChoosesBy (Ok t) a b c → MayBuild 2001 planned n x new now (parts_of after) (IsReady planned (length after) c)
+      by_test true q = subst (λ (l : Low). MayBuild 2001 planned n x new now (parts_of after) (IsReady planned (length after) l)) (sym q) (yes_may e site test a b (Steady v) o m f)
+      by_test false q = subst (λ (l : Low). MayBuild 2001 planned n x new now (parts_of after) (IsReady planned (length after) l)) (sym q) (no_may e site test a b (Steady v) o m f)
+
+  pub chosen_done : (e : Low) (site : SiteId) (test a b c : Low) (v : Value) (behind : List Held) (last : Sites → Way) (ends : ℕ → Bool) (held : Held) → out-Low e ≡ Low-F.If site test a b
+      → MayBuild 2000 planned n x old was (parts_of scope) (IsReady planned (length scope) e) → ExprMade planned x n test scope after old new was now (Steady v) → Chooses (plain v) a b c
+      → ExprMade planned x n c after behind new last now ends held → ExprMade planned x (suc n) e scope behind old last was ends held
+  chosen_done e site test a b c v behind last ends held o m f ch h = by_test (is_true v) refl ch
+    where
+      by_test : (t : Bool) → is_true v ≡ t → ChoosesBy (Ok t) a b c → ExprMade planned x (suc n) e scope behind old last was ends held
+      by_test true told q = yes_done e site test a b v behind last ends held o (ap Ok told) m f (subst (λ (l : Low). ExprMade planned x n l after behind new last now ends held) q h)
+      by_test false told q = no_done e site test a b v behind last ends held o (ap Ok told) m f (subst (λ (l : Low). ExprMade planned x n l after behind new last now ends held) q h)
+
+  pub chosen_out : (e : Low) (site : SiteId) (test a b c : Low) (v : Value) (s : BuildStop) → out-Low e ≡ Low-F.If site test a b → ExprMade planned x n test scope after old new was now (Steady v) → Chooses (plain v) a b c
+      → ExprStops planned n c (parts_of after) s → ExprStops planned (suc n) e (parts_of scope) s
+  chosen_out e site test a b c v s o f ch h = by_test (is_true v) refl ch
+    where
+      by_test : (t : Bool) → is_true v ≡ t → ChoosesBy (Ok t) a b c → ExprStops planned (suc n) e (parts_of scope) s
+      by_test true told q = yes_out e site test a b v s o (ap Ok told) f (subst (λ (l : Low). ExprStops planned n l (parts_of after) s) q h)
+      by_test false told q = no_out e site test a b v s o (ap Ok told) f (subst (λ (l : Low). ExprStops planned n l (parts_of after) s) q h)
+
   -- a switch whose test varies
   pub test_lives : (e : Low) (id : NodeId) → IsGround old was x (parts_of scope) planned.sources → ExprMade planned x n e scope after old new was now (Signal id) → (sites : Sites) → (new sites).graph.live id.0 ≡ true
   test_lives e id g f sites =
@@ -168,6 +214,19 @@ module _ (planned : Planned) (n x : ℕ) (scope after : List Held) (old new : Si
   part_out es i e parts s found f h =
       let built = f.builds (no_sites e) in
       one_stop planned n (parts_of scope) s es i e (parts_of parts) built.added found built.placed (subst (λ (l : List Held). ExprStops planned n e (parts_of l) s) f.env h)
+
+  pub parts_ground : (e : Low) (es : List Low) (parts : List Held) → MayBuild 2000 planned n x old was (parts_of scope) (IsReady planned (length scope) e) → PartsMade planned x n es scope after old new was now parts
+      → IsGround new now x (parts_of parts) planned.sources
+  parts_ground e es parts m f = ground_on old new was now x (parts_of scope) (parts_of parts) planned.sources m.ground f.eras (λ sites. let b = f.builds sites in (b.added, b.grew, b.reach))
+
+  take_all : (es : List Low) (i : ℕ) → length es ≤ i → take i es ≡ es
+  take_all [] zero le = refl
+  take_all [] (suc i) le = refl
+  take_all (k ∷ es) zero le = absurd (omega arith)
+  take_all (k ∷ es) (suc i) le = let less : length es ≤ i = omega arith in ap (λ (l : List Low). k ∷ l) (take_all es i less)
+
+  pub parts_all : (es : List Low) (i : ℕ) (parts : List Held) → length es ≤ i → PartsMade planned x n (take i es) scope after old new was now parts → PartsMade planned x n es scope after old new was now parts
+  parts_all es i parts le f = subst (λ (l : List Low). PartsMade planned x n l scope after old new was now parts) (take_all es i le) f
 
   pub parts_none : (es : List Low) → IsGround old was x (parts_of scope) planned.sources → PartsMade planned x n (take 0 es) scope scope old old was was []
   parts_none es g = record {
@@ -283,6 +342,19 @@ module _ (planned : Planned) (n x : ℕ) (scope after : List Held) (old new : Si
         region_built sites planned x (old sites) (new sites) (parts_of scope) (m.ground.taken sites) (m.ground.scope sites) n e id ss (part_of held) (m.ground.sources sites)
         (slots_length ss (names_in e (Low-F.Collapse id ss) o m.fits)) o (work sites);
   }
+
+  pub region_outcome : (e : Low) (id : KernId) (ss : List Slot) (inner : List Held) (slots : List Slot) (r : Result Held BuildStop) → out-Low e ≡ Low-F.Collapse id ss
+      → MayBuild 2001 planned (suc n) x old was (parts_of scope) (IsReady planned (length scope) e) → inner ≡ scope → slots ≡ ss → ((y : ℕ) → now y ≡ was y)
+      → IfOk r (λ held. (sites : Sites) → BuildsWork (old sites) (new sites) planned x n (runs id.0) (slot_parts (plan_of planned) (parts_of inner) slots) (part_of held))
+      → IfErr r (λ s. WorkStops planned n (runs id.0) (slot_parts (plan_of planned) (parts_of inner) slots) s) → ExprOutcome planned x (suc n) e scope scope old new was now r
+  region_outcome e id ss inner slots (Ok held) o m same alike eras made stops =
+      region_done e id ss held o m eras
+      (subst (λ (l : List Slot). (sites : Sites) → BuildsWork (old sites) (new sites) planned x n (runs id.0) (slot_parts (plan_of planned) (parts_of scope) l) (part_of held)) alike
+      (subst (λ (l : List Held). (sites : Sites) → BuildsWork (old sites) (new sites) planned x n (runs id.0) (slot_parts (plan_of planned) (parts_of l) slots) (part_of held)) same made))
+  region_outcome e id ss inner slots (Err s) o m same alike eras made stops =
+      region_stop planned n (parts_of scope) s e id ss o
+      (subst (λ (l : List Slot). WorkStops planned n (runs id.0) (slot_parts (plan_of planned) (parts_of scope) l) s) alike
+      (subst (λ (l : List Held). WorkStops planned n (runs id.0) (slot_parts (plan_of planned) (parts_of l) slots) s) same stops))
 
   -- THE LEAVES
   pub literal_done : (e : Low) (v : Value) → out-Low e ≡ Low-F.Lit v → MayBuild 2001 planned (suc n) x old was (parts_of scope) (IsReady planned (length scope) e) → ExprMade planned x (suc n) e scope scope old old was was (Steady v)

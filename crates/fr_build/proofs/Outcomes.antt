@@ -4,6 +4,8 @@ use Rattle.std.proofs.Math.Seq.{take-append_seam}
 use Rattle.std.proofs.lemmas.List.{map-append, length-map}
 use Rattle.std.proofs.lemmas.Result.{err_from_is_err_and}
 use Rattle.std.specs.Result.{IsErrAnd}
+use Rattle.std.specs.Option.{option_copied}
+use denote.Ref.{Bor}
 use Rattle.fr_value.specs.declared.now.Held.{Held}
 use Rattle.fr_value.specs.declared.ids.FunId.{FunId}
 use Rattle.fr_core.specs.declared.core_form.Operator.{Operator}
@@ -52,6 +54,10 @@ pub expr_same : (planned : Planned) (x m n : ℕ) (d e : Low) (scope after : Lis
     → ExprOutcome planned x m d scope after old new was now r → ExprOutcome planned x n e scope after old new was now r
 expr_same planned x m n d e scope after old new was now r same alike h =
     subst (λ (k : ℕ). ExprOutcome planned x k e scope after old new was now r) same (subst (λ (l : Low). ExprOutcome planned x m l scope after old new was now r) alike h)
+
+-- there is no body
+pub no_body : (r : Option (Bor Low)) (o : Option Low) → r ≡ None → option_copied r ≡ o → o ≡ None
+no_body r o none e = sym e ∙ ap option_copied none
 
 -- what is in scope is at least as long as it was
 pub outer_fits : (outer : ℕ) (after parts inner behind : List Held) → outer ≡ length after → inner ≡ after ++ parts → behind ≡ inner → outer ≤ length behind

@@ -1,7 +1,9 @@
 -- What building does to a graph under way.
 use Rattle.std.specs.Prelude.{◌≡◌, ◌≢◌, ◌⊎◌, ℕ, suc, ◌<◌, ◌≤◌, Bool, true, false, List, [], ◌∷◌, ◌++◌, length, Option, Some, None, Result, Ok, Err}
 use Rattle.fr_links.specs.Lists.{has_item}
+use Rattle.fr_value.specs.declared.now.Bad.{Bad}
 use Rattle.fr_value.specs.declared.now.Held.{Held}
+use Rattle.fr_meaning.specs.Words.{Seen, test_of}
 use Rattle.fr_core.specs.declared.lowered.Low.{Low}
 use Rattle.fr_graph.specs.Graph.{Part, steady, signal, Work, Kind, result, Graph}
 use Rattle.fr_graph.specs.Walk.{Walk, Placed, AllPlaced, place_all, place_work, by_next, place}
@@ -197,3 +199,12 @@ pub record PartsMade (planned : Planned) (x n : ℕ) (es : List Low) (scope afte
 abbrev pub PartsOutcome : Planned → ℕ → ℕ → List Low → List Held → List Held → (Sites → Way) → (Sites → Way) → (ℕ → Bool) → (ℕ → Bool) → Result (List Held) BuildStop → Type 0
 PartsOutcome planned x n es scope after old new was now (Ok parts) = PartsMade planned x n es scope after old new was now parts
 PartsOutcome planned x n es scope after old new was now (Err s) = PartsStop planned n es (parts_of scope) s
+
+-- a test of this value chooses the one or the other
+abbrev pub ChoosesBy : Result Bool Bad → Low → Low → Low → Type 0
+ChoosesBy (Err bad) a b c = ⊥
+ChoosesBy (Ok true) a b c = c ≡ a
+ChoosesBy (Ok false) a b c = c ≡ b
+
+abbrev pub Chooses : Seen → Low → Low → Low → Type 0
+Chooses v a b c = ChoosesBy (test_of v) a b c

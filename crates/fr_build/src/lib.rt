@@ -1,12 +1,14 @@
-//! The building of nodes, as far as it goes: what stands for a work, which is a new node, or its value where it never changes.
-//! The walk over an expression isn't there yet, but for its lemmas. Nothing uses this yet.
+//! The building of nodes: an expression is walked once, what never changes is computed at once, and each part that varies
+//! becomes a node. Nothing uses it yet.
 #![tactic(auto)]
 
+mod building;
 mod laws;
 mod plan;
 mod stops;
 mod works;
 
+pub use building::build;
 pub use laws::what_is_built_grows;
 pub use plan::{Plan, Runner};
 pub use stops::BuildStop;
