@@ -6,3 +6,6 @@ mod Latches
 mod Begun
 mod Ended
 mod Turned
+mod Keeping
+mod Counting
+mod Dealing

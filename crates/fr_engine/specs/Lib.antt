@@ -7,3 +7,4 @@ pub mod Moment
 pub mod Stops
 pub mod Choices
 pub mod Turning
+pub mod Running

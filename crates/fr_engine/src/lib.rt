@@ -1,6 +1,6 @@
-//! What an instant does to the nodes of a graph of signals, step by step: what a node comes to, its writing, the turning of a
-//! watch, what late works take, and where an instant begins and ends. The loop that joins them isn't there yet, and nothing
-//! uses this yet.
+//! An instant over a graph of signals: its nodes are taken from the agenda by least height, computed and written, and the era
+//! of a switch is built anew where its test has another key, until nothing is queued; where an instant begins, and what its end
+//! leaves. Nothing uses this yet.
 #![tactic(auto)]
 
 mod beginning;
@@ -9,6 +9,7 @@ mod computing;
 mod ending;
 mod keys;
 mod latching;
+mod running;
 mod setting;
 mod stops;
 mod turning;
@@ -20,6 +21,7 @@ pub use computing::compute;
 pub use ending::end_instant;
 pub use keys::{keeps_key, key_of};
 pub use latching::latch_all;
+pub use running::run;
 pub use setting::{Notes, settle};
 pub use stops::RunStop;
 pub use turning::turn;
