@@ -73,7 +73,7 @@ pub fn form_kept(kind: CellKind, kept: Option<&Kept>) -> FormKept<'_>
             Some(inner),
         ),
         (CellKind::KeepsPayload, Opened::Payload(payload, inner)) => (
-            Some(LentCell::Payload(payload)),
+            Some(LentCell::Payload(payload.as_ref())),
             Some(inner),
         ),
         _ => (None, None),

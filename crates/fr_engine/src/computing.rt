@@ -129,7 +129,7 @@ fn worked<N: Signals>(
     let stepped = step(
         alloc,
         &node.kind,
-        before.as_ref(),
+        node.cell.get(),
         values.as_slice(),
         table,
         node.nest,

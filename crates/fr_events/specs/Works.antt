@@ -1,7 +1,6 @@
 -- What a node of the store is in the graph of signals: its work, and what its cell holds.
 use Rattle.std.specs.Prelude.{ℕ, ◌<◌, length, Option, Some, None}
-use Rattle.std.specs.Option.{option_map, option_copied}
-use denote.Ref.{Bor}
+use Rattle.std.specs.Option.{option_map}
 use Rattle.fr_core.specs.declared.core_form.Operator.TheVariants as operator
 use Rattle.fr_core.specs.declared.core_form.Handler.TheVariants as handler
 use Rattle.fr_core.specs.declared.core_form.Loop.TheVariants as loop
@@ -11,6 +10,8 @@ use Rattle.fr_store.specs.declared.node.NodeKind.{NodeKind}
 use Rattle.fr_store.specs.declared.node.NodeKind.TheVariants as kind
 use Rattle.fr_store.specs.declared.cell.Cell.{Cell as StoredCell}
 use Rattle.fr_store.specs.declared.cell.Cell.TheVariants as stored
+use Rattle.fr_store.specs.declared.cell.SeenCell.{SeenCell}
+use Rattle.fr_store.specs.Rows.{cell_of as cell_seen}
 use Rattle.fr_meaning.specs.Cells.{Cell, datum, payload}
 use Rattle.fr_kernel.specs.Kernels.{Kernels}
 use Rattle.fr_graph.specs.Graph.{Work, operates, handles, loops, runs, feeds}
@@ -65,6 +66,6 @@ abbrev pub cell_of : StoredCell → Cell
 cell_of (stored.Kept v) = datum v
 cell_of (stored.Payload o) = payload o
 
--- a cell that is borrowed, if there is one
-abbrev pub cell_at : Option (Bor StoredCell) → Option Cell
-cell_at o = option_map cell_of (option_copied o)
+-- a cell that is read, if there is one
+abbrev pub cell_at : Option SeenCell → Option Cell
+cell_at o = option_map cell_of (option_map cell_seen o)

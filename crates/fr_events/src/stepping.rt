@@ -13,7 +13,7 @@ use crate::operators::{step_feeds, step_operator};
 use crate::works::{NodeWork, lent_cell, work_of};
 use fr_forms::{LentCell, Seen};
 use fr_kernel::{Fuel, KernStop, KernTable, Machine};
-use fr_store::{Cell, NodeKind};
+use fr_store::{NodeKind, SeenCell};
 use fr_value::Bad;
 use std::alloc::Global;
 
@@ -33,7 +33,7 @@ fn levels_below(nest: u32) -> u32
 pub fn step(
     alloc: Global,
     kind: &NodeKind,
-    cell: Option<&Cell>,
+    cell: Option<SeenCell<'_>>,
     inputs: &[Seen],
     table: &KernTable,
     nest: u32,

@@ -6,7 +6,7 @@ ghost use Rattle.fr_events.specs.Works.{code_work, work_of as node_work_of, grap
 
 use fr_core::{Handler, Loop, Operator};
 use fr_forms::LentCell;
-use fr_store::{Cell, Code, NodeKind};
+use fr_store::{Cell, Code, NodeKind, SeenCell};
 use fr_value::KernId;
 
 /// What a node computes from the values of its inputs.
@@ -61,13 +61,14 @@ pub(crate) fn work_of(kind: &NodeKind) -> Option<NodeWork>
 }
 
 /// A node's cell as the lines of forms read it.
-pub(crate) fn lent_cell(cell: Option<&Cell>) -> Option<LentCell<'_>>
+pub(crate) fn lent_cell(cell: Option<SeenCell<'_>>) -> Option<LentCell<'_>>
     ensures { earlier result ≡ cell_at cell.entry }
 {
     match cell {
         None => None,
-        Some(Cell::Kept(value)) => Some(LentCell::Datum(value)),
-        Some(Cell::Payload(payload)) => Some(LentCell::Payload(payload)),
+        Some(SeenCell::Kept(value)) => Some(LentCell::Datum(value)),
+        Some(SeenCell::Silent) => Some(LentCell::Payload(None)),
+        Some(SeenCell::Payload(value)) => Some(LentCell::Payload(Some(value))),
     }
 }
 

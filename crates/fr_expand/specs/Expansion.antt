@@ -58,6 +58,10 @@ abbrev pub items_from : List Global → List (List ℕ) → List Form → List I
 items_from globals values [] = []
 items_from globals values (f ∷ fs) = option_to_list (item_of globals values f) ++ items_from globals (values_behind values f) fs
 
+-- the greatest sum of the sizes of a program's forms
+abbrev pub most_weight : ℕ
+most_weight = 8388608
+
 -- a program has fewer expressions than this
 abbrev pub expression_limit : ℕ
 expression_limit = 268435456

@@ -3,7 +3,7 @@ ghost use Rattle.std.specs.Prelude.{◌≡◌, ◌+◌, ◌<◌, ◌≤◌, [], 
 ghost use Rattle.fr_value.specs.Data.{total};
 ghost use Rattle.fr_syntax.specs.Weights.{form_weight, weight};
 ghost use Rattle.fr_scope.specs.Meanings.{most_numbered};
-ghost use Rattle.fr_expand.specs.Expansion.{events_from, functions_in, inputs_from, items_from, program_in};
+ghost use Rattle.fr_expand.specs.Expansion.{events_from, functions_in, inputs_from, items_from, most_weight, program_in};
 ghost use Rattle.fr_expand.specs.Faults.{named};
 ghost use Rattle.fr_expand.specs.Items.{item_of, values_behind};
 ghost use Rattle.fr_expand.specs.Shaped.{names_in, AreNamed};
@@ -24,7 +24,7 @@ pub(crate) fn program_in(
     globals: &Globals,
     forms: &[Form],
 ) -> Result<Program, AllocError>
-    requires { total (map form_weight forms.now) ≤ 8388608 }
+    requires { total (map form_weight forms.now) ≤ most_weight }
     ensures { IfOk result (λ p. p ≡ program_in globals.now forms.now) }
 {
     let (inputs, events) = sources_in(alloc, forms)?;
@@ -40,7 +40,7 @@ pub(crate) fn program_in(
 
 /// The inputs and the events, which are numbered together, from 1.
 fn sources_in(alloc: Global, forms: &[Form]) -> Result<(Items<Input>, Items<Event>), AllocError>
-    requires { total (map form_weight forms.now) ≤ 8388608 }
+    requires { total (map form_weight forms.now) ≤ most_weight }
     ensures inputs { IfOk result (λ s. s.0 ≡ inputs_from 1 forms.now) }
     ensures events { IfOk result (λ s. s.1 ≡ events_from 1 forms.now) }
 {
@@ -76,7 +76,7 @@ fn functions_in(
     globals: &Globals,
     forms: &[Form],
 ) -> Result<Items<Function>, AllocError>
-    requires { total (map form_weight forms.now) ≤ 8388608 }
+    requires { total (map form_weight forms.now) ≤ most_weight }
     ensures { IfOk result (λ fs. fs ≡ functions_in globals.now forms.now) }
 {
     let mut functions = Items::new(alloc);
@@ -127,7 +127,7 @@ fn body_of(
 
 /// The items of the body. Each sees the values before it.
 fn items_in(alloc: Global, globals: &Globals, forms: &[Form]) -> Result<Items<Item>, AllocError>
-    requires { total (map form_weight forms.now) ≤ 8388608 }
+    requires { total (map form_weight forms.now) ≤ most_weight }
     ensures { IfOk result (λ is. is ≡ items_from globals.now [] forms.now) }
 {
     let mut values = Scope::new(alloc);

@@ -2,7 +2,7 @@ ghost use Rattle.std.specs.Prelude.{◌≡◌, ◌+◌, ◌<◌, ◌≤◌, IfOk
 ghost use Rattle.fr_value.specs.Data.{data_of, datum_size, total};
 ghost use Rattle.fr_core.specs.WellFormed.{count, roots, IsWellFormed, most_entries};
 ghost use Rattle.fr_syntax.specs.Weights.{form_weight};
-ghost use Rattle.fr_expand.specs.Expansion.{IsExpansion, expression_limit};
+ghost use Rattle.fr_expand.specs.Expansion.{IsExpansion, expression_limit, most_weight};
 ghost use Rattle.fr_expand.specs.Stops.{Decides, IsStopOf};
 ghost use Rattle.fr_expand.specs.declared.expansion.ExpandStop.TheVariants.{Refused};
 
@@ -44,7 +44,7 @@ impl From<AllocError> for ExpandStop {
 ///
 /// `Refused` is the forms' one refusal. `Memory` tells nothing of the forms.
 pub fn expand(alloc: Global, forms: &[Value]) -> Result<Program, ExpandStop>
-    requires { total (map datum_size (data_of forms.now)) ≤ 8388608 }
+    requires { total (map datum_size (data_of forms.now)) ≤ most_weight }
     ensures expanded { IfOk result (λ p. IsExpansion (data_of forms.now) (Ok p)) }
     ensures well_formed { IfOk result IsWellFormed }
     ensures few { IfOk result (λ p. total (map (λ r. count r.expr) (roots p)) < expression_limit) }
@@ -64,7 +64,7 @@ pub fn expand(alloc: Global, forms: &[Value]) -> Result<Program, ExpandStop>
 
 /// The program that forms are which the first pass doesn't refuse, where the bodies of its handlers and loops are pure.
 fn fit_program(alloc: Global, globals: &Globals, forms: &[Form]) -> Result<Program, ExpandStop>
-    requires { total (map form_weight forms.now) ≤ 8388608 }
+    requires { total (map form_weight forms.now) ≤ most_weight }
     ensures { Decides globals.now forms.now result }
 {
     let program = program_in(alloc, globals, forms)?;

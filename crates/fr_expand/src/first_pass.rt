@@ -5,6 +5,7 @@ ghost use Rattle.fr_core.specs.WellFormed.{deepest_nesting};
 ghost use Rattle.fr_syntax.specs.Outlines.{Global as GlobalName};
 ghost use Rattle.fr_syntax.specs.Weights.{form_weight};
 ghost use Rattle.fr_scope.specs.Meanings.{most_numbered};
+ghost use Rattle.fr_expand.specs.Expansion.{most_weight};
 ghost use Rattle.fr_expand.specs.Items.{form_core};
 ghost use Rattle.fr_expand.specs.Passes.{fault_kind, form_kind, nests, nothing_yet, refusal_from};
 ghost use Rattle.fr_expand.specs.Shaped.{earlier_of, AreNamed};
@@ -26,7 +27,7 @@ pub(crate) fn first_refusal(
     globals: &Globals,
     forms: &[Form],
 ) -> Result<Option<Refusal>, AllocError>
-    requires { total (map form_weight forms.now) ≤ 8388608 }
+    requires { total (map form_weight forms.now) ≤ most_weight }
     ensures { IfOk result (λ r. r ≡ refusal_from globals.now 1 nothing_yet (map Some forms.now)) }
 {
     let mut earlier = EarlierNames::none(alloc);
@@ -41,8 +42,8 @@ fn refusal_behind<'a>(
     forms: &'a [Form],
 ) -> Result<Option<Refusal>, AllocError>
     requires named { AreNamed earlier.old.values }
-    requires few { length earlier.old.values ≤ 8388608 }
-    requires small { total (map form_weight forms.now) ≤ 8388608 }
+    requires few { length earlier.old.values ≤ most_weight }
+    requires small { total (map form_weight forms.now) ≤ most_weight }
     ensures { IfOk result (λ r. r ≡ refusal_from globals.now 1 (earlier_of earlier.old) (map Some forms.now)) }
 {
     for (at, form) in forms.iter().enumerate() {

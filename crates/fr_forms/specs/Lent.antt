@@ -1,6 +1,6 @@
 -- What code has of cells and lines.
 use Rattle.std.specs.Prelude.{List, [], ◌∷◌, Option, Some, None}
-use Rattle.std.specs.Option.{option_map}
+use Rattle.std.specs.Option.{option_copied, option_map}
 use denote.Ref.{Bor}
 use Rattle.fr_value.specs.declared.value.Value.{Value}
 use Rattle.fr_meaning.specs.Words.{Seen, plain}
@@ -31,7 +31,7 @@ cell_of (cell.Payload o) = payload o
 -- a cell that is borrowed
 abbrev pub cell_lent : LentCell → FormCell
 cell_lent (lent_cell.Datum v) = datum v.now
-cell_lent (lent_cell.Payload o) = payload o.now
+cell_lent (lent_cell.Payload o) = payload (option_copied o)
 
 -- a next cell that the code holds, and an earlier one that is borrowed
 abbrev pub next_of : Option Cell → Option FormCell

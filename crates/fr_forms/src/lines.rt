@@ -22,8 +22,8 @@ pub enum Cell {
 pub enum LentCell<'a> {
     /// A datum.
     Datum(&'a Value),
-    /// An event's state.
-    Payload(&'a Option<Value>),
+    /// An event's state: its payload, where it occurs.
+    Payload(Option<&'a Value>),
 }
 
 /// The kind of cell that a form has.

@@ -1,4 +1,4 @@
-ghost use Rattle.std.specs.Prelude.{◌≡◌, ◌<◌, ◌↔◌, [], IfOk, IfErr, IsTrue, length};
+ghost use Rattle.std.specs.Prelude.{◌≡◌, ◌<◌, [], IfOk, IfErr, length};
 ghost use Rattle.fr_core.specs.declared.core_form.Loop.TheVariants as loop;
 ghost use Rattle.fr_kernel.specs.Kernels.{kernel_for};
 ghost use Rattle.fr_kernel.specs.Purity.{IsPureOver};
@@ -108,13 +108,6 @@ impl KernTable {
         let id = self.kernels.len() as u64;
         self.kernels.push(Kern { code, names })?;
         Ok((KernId(id), slots))
-    }
-
-    /// Whether a kernel has this number. It takes no memory.
-    pub fn has(&self, id: KernId) -> bool
-        ensures { IsTrue result ↔ (id.0 < length self.now.kernels) }
-    {
-        id.0 < self.kernels.len() as u64
     }
 }
 

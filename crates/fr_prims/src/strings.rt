@@ -1,9 +1,10 @@
-ghost use Rattle.std.specs.Prelude.{◌≡◌, ◌++◌, ◌+◌, IfOk, OnOk, Ok, pos, length, ◌<◌, ◌^◌};
+ghost use Rattle.std.specs.Prelude.{◌≡◌, ◌++◌, ◌+◌, IfOk, OnOk, Ok, pos, length, ◌<◌};
 ghost use Rattle.std.specs.Fmt.{signed_decimal};
 ghost use Rattle.std.specs.Str.{chars};
 ghost use Rattle.std.specs.String.{string_bytes};
 ghost use Rattle.std.specs.List.{flat_map};
 ghost use Rattle.fr_value.specs.Bytes.{is_short};
+ghost use Rattle.fr_value.specs.Limits.{integer_bound};
 ghost use Rattle.fr_value.specs.declared.value.Value.TheVariants as value;
 ghost use Rattle.fr_prims.specs.Integers.{one, on_integer};
 ghost use Rattle.fr_prims.specs.Strings.{on_string, on_symbol, text_of, string_answer, strings_appended, all_same, strings_equal};
@@ -15,7 +16,7 @@ use std::alloc::{AllocError, Global};
 
 fn characters(text: &str) -> usize
     ensures value { result ≡ length (chars text.now) }
-    ensures small { result < 2 ^ 63 }
+    ensures small { result < integer_bound }
 {
     text.chars().count()
 }

@@ -1,7 +1,8 @@
-ghost use Rattle.std.specs.Prelude.{◌≡◌, ◌+◌, ◌*◌, ◌≤◌, ◌<◌, ◌^◌, ℕ, List as PlainList, length, map, IfOk, IfErr, Err};
+ghost use Rattle.std.specs.Prelude.{◌≡◌, ◌+◌, ◌*◌, ◌≤◌, ◌<◌, ℕ, List as PlainList, length, map, IfOk, IfErr, Err};
 ghost use Rattle.fr_value.specs.declared.value.Datum.{Datum};
 ghost use Rattle.fr_value.specs.Data.{datum_of, data_of, total, datum_size};
 ghost use Rattle.fr_value.specs.Grammar.{Reads, ReadsOne, IsRefused};
+ghost use Rattle.fr_value.specs.Limits.{text_bound};
 ghost use Rattle.fr_value.specs.Text.{datum_text};
 ghost use Rattle.fr_reader.specs.declared.reader.OneStop.TheVariants as OneStop;
 ghost use Rattle.fr_reader.specs.declared.reader.ReadStop.TheVariants as ReadStop;
@@ -64,7 +65,7 @@ const LEVELS: u32 = 65;
 /// `Refused` comes exactly where no list of data reads as the text. Its number is one more than the greatest number
 /// of data that the front of the text reads as, where an atom ends before a delimiter or at the end.
 pub fn read_all(alloc: Global, bytes: &[u8]) -> Result<Vec<Value>, ReadStop>
-    requires { length bytes.now < 2 ^ 31 }
+    requires { length bytes.now < text_bound }
     ensures reads { IfOk result (λ vs. Reads bytes.now (data_of vs.items)) }
     ensures sizes { IfOk result (λ vs. total (map datum_size (data_of vs.items)) ≤ 8 * length bytes.now) }
     ensures refused { IfErr result (λ e. (k : ℕ) → e ≡ ReadStop.Refused k → IsRefused bytes.now k) }

@@ -1,6 +1,6 @@
 //! The bytes of a script that were not taken yet.
 
-ghost use Rattle.std.specs.Prelude.{◌≡◌, ◌≤◌, ◌<◌, ◌+◌, ◌^◌, ◌++◌, [], None, IfSome, length, take, drop, OnOk, OnErr};
+ghost use Rattle.std.specs.Prelude.{◌≡◌, ◌≤◌, ◌<◌, ◌+◌, ◌++◌, [], None, IfSome, length, take, drop, OnOk, OnErr};
 ghost use Rattle.fr_script.specs.Lines.{line_end};
 
 use std::alloc::{AllocError, Global};
@@ -102,7 +102,7 @@ impl Rest {
     /// The number of bytes before the first newline. What it has passed over is never searched again.
     pub fn line_end(&mut self) -> Option<usize>
         ensures value { result ≡ line_end self.old }
-        ensures fits { IfSome result (λ n. n + 1 < 2 ^ 64) }
+        ensures fits { IfSome result (λ n. n < usize.MAX) }
         ensures same { self.new ≡ self.old }
     {
         let found = newline_behind(&self.bytes[self.at..], self.seen);

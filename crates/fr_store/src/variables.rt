@@ -25,6 +25,7 @@ impl Model for Variables {
 }
 
 impl Variables {
+    /// Puts what the variables hold, in their order, into a place apart. It fails only where there is no memory.
     pub fn of(alloc: Global, held: Items<Held>) -> Result<Variables, AllocError>
         ensures { IfOk result (λ it. it ≡ held) }
     {
@@ -33,6 +34,7 @@ impl Variables {
         })
     }
 
+    /// What the variables hold, in their order.
     pub fn as_slice(&self) -> &[Held]
         ensures { result.now ≡ self.now }
     {

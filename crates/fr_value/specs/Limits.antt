@@ -1,5 +1,13 @@
 -- What values may have.
-use Rattle.std.specs.Prelude.{ℕ, ◌+◌}
+use Rattle.std.specs.Prelude.{ℕ, ◌+◌, ◌^◌}
+
+-- no integer is as great as this, or less than minus this
+abbrev pub integer_bound : ℕ
+integer_bound = 2 ^ 63
+
+-- every text that is read as data has fewer bytes
+abbrev pub text_bound : ℕ
+text_bound = 2 ^ 31
 
 -- the most bytes of a symbol or a string
 abbrev pub most_bytes : ℕ

@@ -7,11 +7,12 @@ use Rattle.fr_value.specs.declared.value.Datum.TheOpen.{Datum-F}
 use Rattle.fr_value.specs.declared.value.Datum.TheVariants as datum
 use Rattle.fr_value.specs.declared.value.Datum.TheVariants.{rolls-Int, rolls-Bool, rolls-Sym, rolls-Str, rolls-Seq}
 use Rattle.fr_value.specs.Bytes.{is_name, is_short}
+use Rattle.fr_value.specs.Limits.{integer_bound}
 
 -- a number lies in the signed 64-bit range
 abbrev pub fits : ℤ → Bool
-fits (pos n) = nat_lt n (2 ^ 63)
-fits (negsuc n) = nat_lt n (2 ^ 63)
+fits (pos n) = nat_lt n integer_bound
+fits (negsuc n) = nat_lt n integer_bound
 
 -- all of these are true
 abbrev pub all_true : List Bool → Bool
