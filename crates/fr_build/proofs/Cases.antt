@@ -1,8 +1,8 @@
 -- Cases, and what can't be.
-use Rattle.std.proofs.Common.{◌≡◌, ◌⊎◌, ℕ, suc, true, List, [], Option, None, Some, arith}
+use Rattle.std.proofs.Common.{◌≡◌, ℕ, suc, true, [], Option, None, Some, arith}
 use Rattle.fr_links.specs.Lists.{has_item}
 use Rattle.fr_graph.specs.Graph.{Part, signal, Kind, source, works, watch, result}
-use Rattle.fr_way.specs.Frame.{Holds, is_watch}
+use Rattle.fr_way.specs.Frame.{is_watch}
 
 pub no_item : {A : Type 0} → (m : ℕ) → has_item [] m ≡ true → A
 no_item m e = absurd cc

@@ -1,19 +1,19 @@
 -- What was built for a choice, in an era that had no members, is what a turning asks for.
-use Rattle.std.proofs.Common.{◌≡◌, ◌≢◌, ◌⊎◌, inl, inr, ℕ, zero, suc, ◌+◌, ◌<◌, ◌≤◌, Bool, true, false, if◌then◌else◌, nat_eq, List, [], ◌∷◌, ◌++◌, length, Option, Some, None, refl, ap, sym, ◌∙◌, subst, append-nil, arith}
+use Rattle.std.proofs.Common.{◌≡◌, ◌≢◌, ◌⊎◌, inl, inr, ℕ, suc, ◌<◌, Bool, true, false, if◌then◌else◌, nat_eq, List, [], ◌∷◌, ◌++◌, length, None, refl, ap, sym, ◌∙◌, subst, append-nil, arith}
 use Rattle.fr_links.specs.Lists.{has_item}
-use Rattle.fr_links.proofs.Has.{by_truth, true_false, by_number, eq_is, eq_self, eq_apart, differ, here, there}
+use Rattle.fr_links.proofs.Has.{by_truth, true_false, by_number, eq_self, eq_apart, differ, here, there}
 use Rattle.fr_core.specs.declared.lowered.Low.{Low}
-use Rattle.fr_graph.specs.Graph.{Part, signal, Work, works, result, Graph}
+use Rattle.fr_graph.specs.Graph.{Part, Graph}
 use Rattle.fr_graph.specs.Walk.{Placed, place}
 use Rattle.fr_graph.specs.Wired.{Wired}
 use Rattle.fr_graph.specs.Known.{Reads}
-use Rattle.fr_way.specs.Frame.{Holds, Names, is_source, is_watch}
+use Rattle.fr_way.specs.Frame.{Holds, is_source}
 use Rattle.fr_way.specs.Way.{Way}
 use Rattle.fr_way.specs.Steps.{IsBorn}
-use Rattle.fr_way.specs.Turns.{IsNew, IsGiven, IsBehind, AreBuilt, Grows}
+use Rattle.fr_way.specs.Turns.{IsNew, IsGiven, AreBuilt, Grows}
 use Rattle.fr_nodes.specs.Kinds.{Sites}
 use Rattle.fr_build.specs.Ready.{Planned, plan_of, Matches, PlanMatches}
-use Rattle.fr_build.specs.Builds.{InReach, NamesBefore, InTurn, IsOnce, Precedes, Stays, IsNewIn, Grew, BuildsExpr, CanBuild}
+use Rattle.fr_build.specs.Builds.{InReach, NamesBefore, InTurn, IsOnce, Precedes, BuildsExpr, CanBuild}
 use Rattle.fr_build.proofs.Cases.{no_item}
 use Rattle.fr_build.proofs.Lists.{first_or_rest, only_item, precedes_second}
 

@@ -1,5 +1,5 @@
 -- What the other functions of the walk come to: a choice, further parts, forms with slots, a feedback and the leaves.
-use Rattle.std.proofs.Common.{◌≡◌, ◌≢◌, ◌⊎◌, inl, inr, ℕ, zero, suc, ◌+◌, ◌-◌, ◌<◌, ◌≤◌, Bool, true, false, List, [], ◌∷◌, ◌++◌, length, take, map, slice_get, slice_index_or, Option, Some, None, Result, Ok, Err, refl, ap, sym, ◌∙◌, subst, length-append, arith}
+use Rattle.std.proofs.Common.{◌≡◌, ◌≢◌, ◌⊎◌, inl, inr, ℕ, zero, suc, ◌+◌, ◌-◌, ◌<◌, ◌≤◌, Bool, true, false, List, [], ◌∷◌, ◌++◌, length, take, slice_get, slice_index_or, Some, Result, Ok, Err, refl, ap, sym, ◌∙◌, subst, length-append, arith}
 use Rattle.std.proofs.lemmas.List.{map-append, length-map}
 use Rattle.std.specs.Result.{IfOk, IfErr}
 use Rattle.fr_value.specs.declared.now.Held.{Held}
@@ -18,27 +18,24 @@ use Rattle.fr_core.specs.declared.lowered.Low.TheOpen.{Low-F}
 use Rattle.fr_core.specs.declared.lowered.Slot.{Slot}
 use Rattle.fr_meaning.specs.Words.{plain, test_of}
 use Rattle.fr_kernel.specs.Kernels.{Kernel}
-use Rattle.fr_kernel.specs.Erasure.{named_in, FitsIfNamed, Named}
-use Rattle.fr_graph.specs.Graph.{Part, steady, signal, handles, loops, runs, works, feeds, source}
-use Rattle.fr_graph.specs.Walk.{slot_parts, place}
+use Rattle.fr_kernel.specs.Erasure.{named_in, FitsIfNamed}
+use Rattle.fr_graph.specs.Graph.{Part, signal, handles, loops, runs, works, feeds}
+use Rattle.fr_graph.specs.Walk.{slot_parts}
 use Rattle.fr_graph.specs.Known.{Reads}
-use Rattle.fr_graph.specs.Sound.{HasParts, IsSoundAt}
 use Rattle.fr_way.specs.Frame.{AreCalm}
 use Rattle.fr_way.specs.Way.{Way}
-use Rattle.fr_events.specs.Works.{HasKernel}
 use Rattle.fr_nodes.specs.Kinds.{Sites, part_of, parts_of}
 use Rattle.fr_nodes.specs.Makes.{AreThere, Makes, MakesSwitch, Ties}
 use Rattle.fr_build.specs.Ready.{Planned, plan_of, IsReady, AreReady, IsReadyAt, IsGround, IsPlanReady, AreSlotsIn, NamesInScope, LiveAreTaken}
-use Rattle.fr_build.specs.Builds.{InReach, Grew, BuildsExpr, BuildsParts, BuildsWork, ExprStops, PartsStop, WorkStops, MayBuild, ExprMade, ExprOutcome, PartsMade, PartsOutcome, Chooses, ChoosesBy}
-use Rattle.fr_build.specs.Stops.{StopsWhere}
+use Rattle.fr_build.specs.Builds.{Grew, BuildsExpr, BuildsParts, BuildsWork, ExprStops, PartsStop, WorkStops, MayBuild, ExprMade, ExprOutcome, PartsMade, Chooses, ChoosesBy}
 use Rattle.fr_build.specs.declared.stops.BuildStop.{BuildStop}
 use Rattle.fr_build.proofs.Grown.{grew_live}
 use Rattle.fr_build.proofs.Inner.{at_itself, in_if, in_handler, in_loop, in_feedback, each_at}
-use Rattle.fr_build.proofs.Seq.{reads_append, reads_one, one_reads, slot_reads, reach_lives, sources_stay}
+use Rattle.fr_build.proofs.Seq.{reads_append, reads_one, slot_reads, reach_lives, sources_stay}
 use Rattle.fr_build.proofs.Fed.{made_grew, feedback_built}
-use Rattle.fr_build.proofs.Forms.{literal_built, variable_built, source_built, yes_built, no_built, handler_built, loop_built, parts_length}
+use Rattle.fr_build.proofs.Forms.{literal_built, variable_built, source_built, yes_built, no_built, handler_built, loop_built}
 use Rattle.fr_build.proofs.Switches.{region_built, switch_built, none_built, snoc_built}
-use Rattle.fr_build.proofs.Stopped.{test_stop, yes_stop, no_stop, handler_parts_stop, handler_stop, loop_parts_stop, loop_stop, region_stop, init_stop, fed_stop, one_stop}
+use Rattle.fr_build.proofs.Stopped.{yes_stop, no_stop, handler_stop, loop_stop, region_stop, fed_stop, one_stop}
 use Rattle.fr_build.proofs.Outcomes.{no_sites, ground_on, inner_parts, cut_back}
 
 pub item_at : (es : List Low) (i : ℕ) (d : Low) → i < length es → slice_get es i ≡ Some (slice_index_or es i d)

@@ -1,10 +1,10 @@
 -- A feedback: its name's node between the nodes of the value that it has first and those of its body, and the cell tied to that.
-use Rattle.std.proofs.Common.{◌≡◌, ◌≢◌, ◌⊎◌, inl, inr, ℕ, zero, suc, ◌+◌, ◌<◌, true, false, List, [], ◌∷◌, ◌++◌, length, Option, Some, None, refl, ap, sym, ◌∙◌, subst, append_assoc, length-append, arith}
+use Rattle.std.proofs.Common.{◌≡◌, ◌≢◌, inl, inr, ℕ, suc, ◌+◌, ◌<◌, true, false, List, [], ◌∷◌, ◌++◌, length, Some, None, refl, ap, sym, ◌∙◌, subst, append_assoc, length-append, arith}
 use Rattle.fr_links.specs.Lists.{has_item}
 use Rattle.fr_links.proofs.Has.{here, differ, true_false, has_append_left, has_append_right}
 use Rattle.fr_core.specs.declared.lowered.Low.{Low, out-Low}
 use Rattle.fr_core.specs.declared.lowered.Low.TheOpen.{Low-F}
-use Rattle.fr_graph.specs.Graph.{Part, steady, signal, Work, Kind, works, feeds, result, Graph}
+use Rattle.fr_graph.specs.Graph.{Part, signal, Work, Kind, works, feeds, result}
 use Rattle.fr_graph.specs.Walk.{Plan, Walk, Placed, first, rest, place_shape, place}
 use Rattle.fr_graph.specs.Wired.{IsNext, IsSource, ShapeStands, Wired}
 use Rattle.fr_graph.specs.Known.{Reads}
@@ -12,10 +12,10 @@ use Rattle.fr_way.specs.Frame.{AreCalm, Holds, Names, is_watch}
 use Rattle.fr_way.specs.Way.{Way}
 use Rattle.fr_nodes.specs.Kinds.{Sites}
 use Rattle.fr_nodes.specs.Makes.{AreThere, Makes, Ties}
-use Rattle.fr_build.specs.Ready.{Planned, plan_of, LiveAreTaken, Matches, PlanMatches}
-use Rattle.fr_build.specs.Builds.{InReach, Stays, IsNewIn, NamesBefore, NamesNoWatch, Grew, StandsBy, BuildsExpr}
+use Rattle.fr_build.specs.Ready.{Planned, plan_of, LiveAreTaken, Matches}
+use Rattle.fr_build.specs.Builds.{InReach, Stays, IsNewIn, NamesNoWatch, Grew, BuildsExpr}
 use Rattle.fr_build.proofs.Cases.{none_later}
-use Rattle.fr_build.proofs.Lists.{AreAmong, only_item}
+use Rattle.fr_build.proofs.Lists.{only_item}
 use Rattle.fr_build.proofs.Grown.{grew_live, stays_two, seq, scope_reach}
 use Rattle.fr_build.proofs.Tied.{tied, tied_reach}
 use Rattle.fr_build.proofs.Switched.{still_stays, made_new}

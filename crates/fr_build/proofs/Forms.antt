@@ -1,6 +1,5 @@
 -- What is built for each form of what is built for its parts.
-use Rattle.std.proofs.Common.{◌≡◌, ◌⊎◌, inl, inr, ℕ, zero, suc, ◌+◌, ◌<◌, true, false, List, [], ◌∷◌, ◌++◌, length, slice_get, Option, Some, None, Ok, refl, ap, sym, ◌∙◌, subst, append_assoc, length-append, arith}
-use Rattle.fr_links.specs.Lists.{has_item}
+use Rattle.std.proofs.Common.{◌≡◌, inl, inr, ℕ, suc, ◌+◌, ◌<◌, true, false, List, [], ◌∷◌, ◌++◌, length, slice_get, Option, Some, Ok, ap, sym, ◌∙◌, subst, length-append}
 use Rattle.fr_value.specs.declared.value.Value.{Value}
 use Rattle.fr_value.specs.declared.ids.FunId.{FunId}
 use Rattle.fr_value.specs.declared.ids.KernId.{KernId}
@@ -12,13 +11,12 @@ use Rattle.fr_core.specs.declared.core_form.Handler.{Handler}
 use Rattle.fr_core.specs.declared.core_form.Loop.{Loop}
 use Rattle.fr_core.specs.declared.lowered.Low.{Low, out-Low}
 use Rattle.fr_core.specs.declared.lowered.Low.TheOpen.{Low-F}
-use Rattle.fr_core.specs.declared.lowered.LowFunction.{LowFunction}
 use Rattle.fr_core.specs.declared.lowered.Slot.{Slot}
 use Rattle.fr_meaning.specs.Words.{Seen, plain, test_of}
 use Rattle.fr_kernel.specs.Erasure.{Place}
-use Rattle.fr_graph.specs.Graph.{Part, steady, signal, Work, operates, handles, loops, runs, source, Graph}
+use Rattle.fr_graph.specs.Graph.{Part, steady, signal, operates, handles, loops, source}
 use Rattle.fr_graph.specs.Walk.{Plan, Walk, Placed, AllPlaced, place_all, place_work, place_chosen, place_switch, variable_part, slot_parts, low_body, place_call, place_shape, place}
-use Rattle.fr_graph.specs.Wired.{IsSource, WorkStands, SlotsStand, AllStand, Chosen, SwitchStands, CallStands, ShapeStands, Wired}
+use Rattle.fr_graph.specs.Wired.{WorkStands, SlotsStand, AllStand, Chosen, SwitchStands, CallStands, ShapeStands, Wired}
 use Rattle.fr_graph.specs.Known.{Reads}
 use Rattle.fr_graph.proofs.Inside.{all_length}
 use Rattle.fr_way.specs.Frame.{is_source, is_watch}
@@ -26,7 +24,7 @@ use Rattle.fr_way.specs.Way.{Way}
 use Rattle.fr_nodes.specs.Kinds.{Sites}
 use Rattle.fr_nodes.specs.Makes.{AreThere}
 use Rattle.fr_build.specs.Ready.{Planned, plan_of, LiveAreTaken, AreSlotsIn, HasChoices, Matches, AllMatch, PlanMatches}
-use Rattle.fr_build.specs.Builds.{InReach, NamesNoWatch, Grew, Builds, BuildsAll, StandsBy, BuildsExpr, AllStandBy, BuildsParts, BuildsWork}
+use Rattle.fr_build.specs.Builds.{InReach, NamesNoWatch, Grew, StandsBy, BuildsExpr, BuildsParts, BuildsWork}
 use Rattle.fr_build.proofs.Grown.{grew_none, grew_live}
 use Rattle.fr_build.proofs.Stand.{wired_on, all_on}
 use Rattle.fr_build.proofs.Inner.{in_let, in_if, in_apply, in_operator, in_handler, in_loop, in_body}

@@ -1,5 +1,5 @@
 -- What grew can grow again.
-use Rattle.std.proofs.Common.{◌≡◌, ◌≢◌, ◌⊎◌, inl, inr, ℕ, suc, ◌<◌, true, false, List, [], ◌∷◌, ◌++◌, Some, refl, ap, sym, ◌∙◌, subst, append_assoc, append-nil}
+use Rattle.std.proofs.Common.{◌≡◌, inl, inr, ℕ, suc, ◌<◌, true, false, List, [], ◌∷◌, ◌++◌, Some, refl, ap, sym, ◌∙◌, subst, append_assoc, append-nil}
 use Rattle.fr_links.specs.Lists.{has_item}
 use Rattle.fr_links.proofs.Has.{by_truth, true_false, there, has_append_left, has_append_right, has_append_cases}
 use Rattle.fr_graph.specs.Graph.{Part, signal, result, Graph}

@@ -19,3 +19,4 @@ pub mod Lines
 pub mod Told
 pub mod Outcomes
 pub mod Endings
+pub mod Body

@@ -1,5 +1,5 @@
 -- What each function of the walk comes to, by what those that it calls come to.
-use Rattle.std.proofs.Common.{◌≡◌, ◌⊎◌, inl, inr, ℕ, suc, ◌+◌, ◌<◌, ◌≤◌, Bool, true, false, List, [], ◌∷◌, ◌++◌, length, take, map, slice_get, Option, Some, None, Result, Ok, Err, refl, ap, sym, ◌∙◌, subst, length-append, arith}
+use Rattle.std.proofs.Common.{◌≡◌, ◌⊎◌, inl, inr, ℕ, suc, ◌+◌, ◌≤◌, Bool, true, List, ◌++◌, length, take, slice_get, Option, Some, None, Result, Err, ap, sym, ◌∙◌, subst, length-append, arith}
 use Rattle.std.proofs.Math.Seq.{take-append_seam}
 use Rattle.std.proofs.lemmas.List.{map-append, length-map}
 use Rattle.std.proofs.lemmas.Result.{err_from_is_err_and}
@@ -12,24 +12,22 @@ use Rattle.fr_core.specs.declared.core_form.Operator.{Operator}
 use Rattle.fr_core.specs.Shapes.{operator_takes}
 use Rattle.fr_core.specs.declared.lowered.Low.{Low, out-Low}
 use Rattle.fr_core.specs.declared.lowered.Low.TheOpen.{Low-F}
-use Rattle.fr_core.specs.declared.lowered.LowFunction.{LowFunction}
-use Rattle.fr_graph.specs.Graph.{Part, operates, source}
-use Rattle.fr_graph.specs.Walk.{Plan, AllPlaced, low_body, place_all, place}
+use Rattle.fr_graph.specs.Graph.{Part, operates}
+use Rattle.fr_graph.specs.Walk.{low_body}
 use Rattle.fr_graph.specs.Known.{Reads}
-use Rattle.fr_graph.specs.Sound.{HasParts, IsSoundAt}
+use Rattle.fr_graph.specs.Sound.{HasParts}
 use Rattle.fr_way.specs.Way.{Way}
 use Rattle.fr_nodes.specs.Kinds.{Sites, part_of, parts_of}
-use Rattle.fr_build.specs.Ready.{Planned, plan_of, IsReady, AreReady, IsReadyAt, IsGround, IsPlanReady}
-use Rattle.fr_build.specs.Builds.{InReach, Grew, BuildsExpr, BuildsParts, BuildsWork, ExprStops, PartsStop, WorkStops, MayBuild, ExprMade, ExprOutcome, PartsMade, PartsOutcome}
-use Rattle.fr_build.specs.Stops.{StopsWhere, made_stop}
+use Rattle.fr_build.specs.Ready.{Planned, IsReady, AreReady, IsReadyAt, IsGround}
+use Rattle.fr_build.specs.Builds.{InReach, Grew, BuildsExpr, BuildsWork, ExprStops, PartsStop, WorkStops, MayBuild, ExprMade, ExprOutcome, PartsMade, PartsOutcome}
+use Rattle.fr_build.specs.Stops.{made_stop}
 use Rattle.fr_build.specs.declared.stops.BuildStop.{BuildStop}
-use Rattle.fr_build.specs.declared.stops.BuildStop.TheVariants as stop
 use Rattle.fr_store.specs.declared.store.MakeStop.{MakeStop}
 use Rattle.fr_build.proofs.Grown.{grew_live}
 use Rattle.fr_build.proofs.Inner.{at_itself, in_let, in_apply, in_operator, in_body}
 use Rattle.fr_build.proofs.Seq.{reads_append, reach_lives, sources_stay}
 use Rattle.fr_build.proofs.Forms.{parts_length, let_built, call_built, operator_built}
-use Rattle.fr_build.proofs.Stopped.{made_stops, let_parts_stop, let_body_stop, args_stop, arity_stop, body_stop, operator_parts_stop, operator_stop}
+use Rattle.fr_build.proofs.Stopped.{made_stops, let_body_stop, body_stop, operator_stop}
 
 -- WHAT STOPS
 -- a stop is handed on

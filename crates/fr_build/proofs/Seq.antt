@@ -1,14 +1,13 @@
 -- One part is built behind others.
-use Rattle.std.proofs.Common.{◌≡◌, ◌⊎◌, inl, inr, ℕ, zero, suc, ◌<◌, true, false, List, [], ◌∷◌, ◌++◌, slice_get, Option, Some, refl, ap, sym, ◌∙◌, subst, append_assoc}
-use Rattle.fr_links.specs.Lists.{has_item}
+use Rattle.std.proofs.Common.{◌≡◌, ◌⊎◌, inl, inr, ℕ, zero, suc, ◌<◌, true, List, [], ◌∷◌, ◌++◌, slice_get, refl, ap, sym, ◌∙◌, subst, append_assoc}
 use Rattle.fr_links.proofs.Has.{has_append_left, has_append_right}
 use Rattle.fr_core.specs.declared.lowered.Slot.{Slot}
 use Rattle.fr_core.specs.declared.lowered.Slot.TheVariants as slot
 use Rattle.fr_graph.specs.Graph.{Part, steady, signal, source, Graph}
-use Rattle.fr_graph.specs.Walk.{Plan, Placed, AllPlaced, variable_part, slot_parts}
+use Rattle.fr_graph.specs.Walk.{Plan, Placed, variable_part, slot_parts}
 use Rattle.fr_graph.specs.Wired.{IsSource, SlotsStand}
 use Rattle.fr_graph.specs.Known.{Reads}
-use Rattle.fr_way.specs.Frame.{is_source, is_watch}
+use Rattle.fr_way.specs.Frame.{is_watch}
 use Rattle.fr_way.specs.Way.{Way}
 use Rattle.fr_nodes.specs.Makes.{AreThere}
 use Rattle.fr_build.specs.Ready.{Planned, plan_of, LiveAreTaken, AreSlotsIn}

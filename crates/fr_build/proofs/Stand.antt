@@ -6,12 +6,15 @@ use Rattle.fr_links.specs.Lists.{has_item}
 use Rattle.fr_links.proofs.Has.{here, there, has_append_left, has_append_right}
 use Rattle.fr_core.specs.declared.lowered.Low.{Low, out-Low}
 use Rattle.fr_core.specs.declared.lowered.Low.TheOpen.{Low-F}
+use Rattle.fr_core.specs.declared.lowered.LowItem.{LowItem}
+use Rattle.fr_core.specs.declared.lowered.LowItem.TheVariants as low_item
 use Rattle.fr_core.specs.declared.lowered.Slot.{Slot}
 use Rattle.fr_core.specs.declared.lowered.Slot.TheVariants as slot
 use Rattle.fr_meaning.specs.Words.{test_of}
 use Rattle.fr_graph.specs.Graph.{Part, steady, signal, Work, operates, handles, loops, runs, feeds, Kind, works, watch, result, Graph, IsClean, work_line, is_plain}
 use Rattle.fr_graph.specs.Walk.{Plan, first, rest, Walk, AllPlaced, by_value, by_next, place_all, all_steady, steady_values, slot_parts, place_work, place_chosen, place_switch, low_body, place_call, place_shape, place}
 use Rattle.fr_graph.specs.Wired.{IsNext, AreNext, inputs_of, later_of, Either, WorkStands, IsSource, SlotsStand, AllStand, Chosen, SwitchStands, CallStands, ShapeStands, Wired}
+use Rattle.fr_graph.specs.Items.{place_items, ItemsStand}
 use Rattle.fr_way.specs.Frame.{is_watch}
 
 -- a node is the same in two graphs, and so is its result, where it is a watch that has one
@@ -200,3 +203,21 @@ module _ (g h : Graph) (p : Plan) (x : ℕ) (from_source : (s : ℕ) → IsSourc
   all_on n es env added behind left alike st =
       carried g h added behind (place_all (place p n) env es (added ++ behind)).left (AllStand (place p n) (Wired h p x n) env es (added ++ behind))
       (all_carry n (carries_at n) env es (added ++ behind) st) left alike
+
+  -- items one after the other
+  items_carry : (env : List Part) (is : List LowItem) (ms : List ℕ) → ItemsStand (place p 2000) (Wired g p x 2000) env is ms
+      → Carries g h ms (place_items (place p 2000) env is ms).left (ItemsStand (place p 2000) (Wired h p x 2000) env is ms)
+  items_carry env [] ms st = none_walked g h (Unit {0}) ms tt
+  items_carry env (low_item.Define e ∷ is) ms st =
+      let r = place p 2000 e env ms in
+      one_by_one g h (Wired h p x 2000 e env ms) (ItemsStand (place p 2000) (Wired h p x 2000) (env ++ r.part ∷ []) is r.left) ms r.left (place_items (place p 2000) (env ++ r.part ∷ []) is r.left).left
+      (carries_at 2000 e env ms st.0) (items_carry (env ++ r.part ∷ []) is r.left st.1)
+  items_carry env (low_item.Show name e ∷ is) ms st =
+      let r = place p 2000 e env ms in
+      one_by_one g h (Wired h p x 2000 e env ms) (ItemsStand (place p 2000) (Wired h p x 2000) env is r.left) ms r.left (place_items (place p 2000) env is r.left).left
+      (carries_at 2000 e env ms st.0) (items_carry env is r.left st.1)
+
+  pub items_on : (is : List LowItem) (added behind : List ℕ) → (place_items (place p 2000) [] is (added ++ behind)).left ≡ behind → AreAlike g h added
+      → ItemsStand (place p 2000) (Wired g p x 2000) [] is (added ++ behind) → ItemsStand (place p 2000) (Wired h p x 2000) [] is (added ++ behind)
+  items_on is added behind left alike st =
+      carried g h added behind (place_items (place p 2000) [] is (added ++ behind)).left (ItemsStand (place p 2000) (Wired h p x 2000) [] is (added ++ behind)) (items_carry [] is (added ++ behind) st) left alike

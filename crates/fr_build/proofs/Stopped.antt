@@ -1,5 +1,5 @@
 -- Where building stops with an error.
-use Rattle.std.proofs.Common.{◌≡◌, ◌⊎◌, inl, inr, ℕ, zero, suc, true, false, List, [], ◌∷◌, ◌++◌, length, take, slice_get, Option, Some, None, Ok, refl, ap, sym, ◌∙◌, subst, append_assoc}
+use Rattle.std.proofs.Common.{◌≡◌, inl, inr, ℕ, zero, suc, true, false, List, [], ◌∷◌, ◌++◌, length, take, slice_get, Option, Some, None, Ok, sym, subst, append_assoc}
 use Rattle.fr_value.specs.declared.ids.FunId.{FunId}
 use Rattle.fr_value.specs.declared.ids.KernId.{KernId}
 use Rattle.fr_value.specs.declared.ids.SiteId.{SiteId}
@@ -10,7 +10,7 @@ use Rattle.fr_core.specs.declared.lowered.Low.{Low, out-Low}
 use Rattle.fr_core.specs.declared.lowered.Low.TheOpen.{Low-F}
 use Rattle.fr_core.specs.declared.lowered.Slot.{Slot}
 use Rattle.fr_meaning.specs.Words.{Seen, test_of}
-use Rattle.fr_graph.specs.Graph.{Part, steady, signal, Work, operates, handles, loops, runs}
+use Rattle.fr_graph.specs.Graph.{Part, steady, signal, operates, handles, loops, runs}
 use Rattle.fr_graph.specs.Walk.{Plan, Walk, Placed, AllPlaced, first, rest, place_all, slot_parts, low_body, place}
 use Rattle.fr_graph.specs.Wired.{Standing}
 use Rattle.fr_graph.specs.Fails.{AnyFails, WorkFails, ChoiceFails, SwitchFails, CallFails, ShapeFails, Fails}

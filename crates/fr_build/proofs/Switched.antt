@@ -1,15 +1,15 @@
 -- A watch and its result were made.
-use Rattle.std.proofs.Common.{◌≡◌, ◌≢◌, ◌⊎◌, inl, inr, ℕ, suc, ◌<◌, true, false, List, [], ◌∷◌, Some, None, refl, ap, sym, ◌∙◌, subst, arith}
+use Rattle.std.proofs.Common.{◌≡◌, inl, inr, ℕ, ◌<◌, true, false, List, [], ◌∷◌, None, refl, ap, sym, ◌∙◌, subst}
 use Rattle.fr_links.specs.Lists.{has_item}
 use Rattle.fr_links.proofs.Has.{here, there, differ, cons_absent}
 use Rattle.fr_core.specs.declared.lowered.Low.{Low}
-use Rattle.fr_graph.specs.Graph.{Part, signal, Kind, watch, result, Graph}
+use Rattle.fr_graph.specs.Graph.{Part, signal, Kind, watch, result}
 use Rattle.fr_graph.specs.Known.{Reads}
 use Rattle.fr_way.specs.Frame.{AreCalm, Holds, Names, is_source, is_watch}
 use Rattle.fr_way.specs.Way.{Way}
 use Rattle.fr_nodes.specs.Makes.{AreThere, IsStill, IsMade, MakesSwitch}
 use Rattle.fr_build.specs.Ready.{LiveAreTaken}
-use Rattle.fr_build.specs.Builds.{Stays, IsNewIn, AreSwitches, NamesNoWatch, NamesBefore, Precedes, Grew}
+use Rattle.fr_build.specs.Builds.{Stays, IsNewIn, NamesBefore, Precedes, Grew}
 use Rattle.fr_build.proofs.Cases.{none_later, watch_no_result}
 use Rattle.fr_build.proofs.Lists.{first_or_rest, only_item}
 

@@ -1,5 +1,5 @@
 -- A region, a switch whose test varies, and further parts.
-use Rattle.std.proofs.Common.{◌≡◌, ◌⊎◌, inl, inr, ℕ, zero, suc, ◌<◌, true, false, List, [], ◌∷◌, ◌++◌, length, slice_get, Option, Some, None, Ok, refl, ap, sym, ◌∙◌, subst, append_assoc, length-append, arith}
+use Rattle.std.proofs.Common.{◌≡◌, inl, inr, ℕ, suc, ◌<◌, true, false, List, [], ◌∷◌, ◌++◌, length, refl, ap, sym, ◌∙◌, subst, append_assoc, arith}
 use Rattle.fr_links.specs.Lists.{has_item}
 use Rattle.fr_links.proofs.Has.{here, there, has_append_left, has_append_right}
 use Rattle.fr_value.specs.declared.ids.KernId.{KernId}
@@ -7,16 +7,16 @@ use Rattle.fr_value.specs.declared.ids.SiteId.{SiteId}
 use Rattle.fr_core.specs.declared.lowered.Low.{Low, out-Low}
 use Rattle.fr_core.specs.declared.lowered.Low.TheOpen.{Low-F}
 use Rattle.fr_core.specs.declared.lowered.Slot.{Slot}
-use Rattle.fr_graph.specs.Graph.{Part, steady, signal, Work, runs, watch, result, Graph}
-use Rattle.fr_graph.specs.Walk.{Plan, Walk, Placed, AllPlaced, rest, by_next, place_all, place_work, place_switch, slot_parts, place_shape, place}
-use Rattle.fr_graph.specs.Wired.{Standing, AreNext, WorkStands, SlotsStand, AllStand, SwitchStands, ShapeStands, Wired}
+use Rattle.fr_graph.specs.Graph.{Part, signal, runs, watch}
+use Rattle.fr_graph.specs.Walk.{Walk, Placed, AllPlaced, rest, by_next, place_all, place_work, place_switch, slot_parts, place_shape, place}
+use Rattle.fr_graph.specs.Wired.{Standing, AreNext, WorkStands, AllStand, SwitchStands, ShapeStands, Wired}
 use Rattle.fr_graph.specs.Known.{Reads}
 use Rattle.fr_way.specs.Frame.{is_watch}
 use Rattle.fr_way.specs.Way.{Way}
 use Rattle.fr_nodes.specs.Kinds.{Sites, Choices}
 use Rattle.fr_nodes.specs.Makes.{AreThere, MakesSwitch}
-use Rattle.fr_build.specs.Ready.{Planned, plan_of, LiveAreTaken, AreSlotsIn, HasChoices, Matches, AllMatch, PlanMatches}
-use Rattle.fr_build.specs.Builds.{InReach, NamesNoWatch, Grew, Builds, BuildsAll, StandsBy, BuildsExpr, AllStandBy, BuildsParts, BuildsWork}
+use Rattle.fr_build.specs.Ready.{Planned, plan_of, LiveAreTaken, AreSlotsIn, HasChoices, Matches}
+use Rattle.fr_build.specs.Builds.{InReach, NamesNoWatch, Grew, Builds, StandsBy, BuildsExpr, BuildsParts, BuildsWork}
 use Rattle.fr_build.proofs.Grown.{grew_none, grew_live, reach_on, reach_taken, seq, scope_reach}
 use Rattle.fr_build.proofs.Reach.{reach_wider}
 use Rattle.fr_build.proofs.Inner.{in_if, each_first, each_last}

@@ -1,13 +1,13 @@
 -- What grew stays so where a node that was added gets the part that its cell takes.
-use Rattle.std.proofs.Common.{◌≡◌, ◌≢◌, ◌⊎◌, inl, inr, ℕ, ◌<◌, true, false, List, [], Option, Some, refl, ap, sym, ◌∙◌, subst}
+use Rattle.std.proofs.Common.{◌≡◌, ◌≢◌, inl, inr, ℕ, ◌<◌, true, false, List, [], Option, Some, ap, sym, ◌∙◌, subst}
 use Rattle.fr_links.specs.Lists.{has_item}
 use Rattle.fr_links.proofs.Has.{by_number, true_false}
-use Rattle.fr_graph.specs.Graph.{Part, signal, result, Graph}
+use Rattle.fr_graph.specs.Graph.{Part, signal, result}
 use Rattle.fr_graph.specs.Known.{Reads}
 use Rattle.fr_way.specs.Frame.{AreCalm, Holds, Names, is_source, is_watch}
 use Rattle.fr_way.specs.Way.{Way}
 use Rattle.fr_nodes.specs.Makes.{Ties}
-use Rattle.fr_build.specs.Builds.{InReach, InTurn, Stays, IsNewIn, AreSwitches, NamesNoWatch, Precedes, Grew}
+use Rattle.fr_build.specs.Builds.{InReach, Stays, IsNewIn, AreSwitches, NamesNoWatch, Precedes, Grew}
 use Rattle.fr_build.proofs.Reach.{reach_wider, turn_over}
 
 same_part : (p q : Part) → Path (Option Part) (Some p) (Some q) → p ≡ q

@@ -5,8 +5,8 @@ use Rattle.fr_value.specs.declared.now.Bad.{Bad}
 use Rattle.fr_value.specs.declared.now.Held.{Held}
 use Rattle.fr_meaning.specs.Words.{Seen, test_of}
 use Rattle.fr_core.specs.declared.lowered.Low.{Low}
-use Rattle.fr_graph.specs.Graph.{Part, steady, signal, Work, Kind, result, Graph}
-use Rattle.fr_graph.specs.Walk.{Walk, Placed, AllPlaced, place_all, place_work, by_next, place}
+use Rattle.fr_graph.specs.Graph.{Part, signal, Work, Kind, result, Graph}
+use Rattle.fr_graph.specs.Walk.{Placed, AllPlaced, place_all, place_work, by_next, place}
 use Rattle.fr_graph.specs.Known.{Reads}
 use Rattle.fr_graph.specs.Wired.{AllStand, IsNext, Wired, WorkStands}
 use Rattle.fr_graph.specs.Fails.{AnyFails, Fails, WorkFails}

@@ -16,7 +16,7 @@ ghost use Rattle.fr_cli.specs.Requests.{command_in};
 use crate::command::{Request, request_of};
 use crate::telling::{Failure, status, tell};
 use fr_io::{FileStop, Shelf, Sink, read_up_to, write_all};
-use fr_run::{WholeEvaluator, run_session};
+use fr_run::run_afresh;
 use fr_show::{PROGRAM_LIMIT, Stop, accept};
 use std::alloc::Global;
 
@@ -55,7 +55,7 @@ fn run<S: Shelf, O: Sink>(
         Ok(text) => text,
         Err(stop) => return Err(Failure::Stopped(stop)),
     };
-    match run_session::<WholeEvaluator, S, O>(alloc, &text, script, shelf, out) {
+    match run_afresh(alloc, &text, script, shelf, out) {
         Ok(()) => Ok(()),
         Err(stop) => Err(Failure::Stopped(stop)),
     }

@@ -5,6 +5,7 @@ use Rattle.fr_value.specs.declared.ids.NodeId.{NodeId}
 use Rattle.fr_graph.specs.Graph.{Graph}
 use Rattle.fr_way.specs.Way.{Way, occurs_now}
 use Rattle.fr_way.specs.Ends.{Begins, shown_of}
+use Rattle.fr_way.specs.Loop.{Starts}
 use Rattle.fr_nodes.specs.Kinds.{Sites}
 use Rattle.fr_nodes.specs.Signals.{IsAnew, IsSound}
 use Rattle.fr_engine.specs.Notes.{Named, AreNoted}
@@ -129,7 +130,7 @@ module _ (sources : List Now) (wakes late : List NodeId) (at a b c d : Way)
   ]
 
   -- AN INSTANT BEGINS
-  pub begins : Begins sources at.graph d
+  begins : Begins sources at.graph d
   begins = record {
     graph = graph_was;
     done = λ m. behind.same.done m ∙ anew.done m;
@@ -151,6 +152,13 @@ module _ (sources : List Now) (wakes late : List NodeId) (at a b c d : Way)
     ];
   }
 
+  pub starts : Starts sources at d
+  starts = record {
+    begins = begins;
+    taken = λ m. behind.same.taken m ∙ anew.taken m;
+    heights = λ m live. behind.same.heights m ∙ anew.heights m;
+  }
+
 -- as a further instant begins, nothing needs to be noted, and every watch that lives has chosen
 pub noted_first : (sources : List Now) (old : Graph) (at : Way) → Begins sources old at → AreNoted old at [] []
 noted_first sources old at b = record {
@@ -159,6 +167,8 @@ noted_first sources old at b = record {
     | inr quiet ↦ inr (ap (λ (g : Graph). occurs_now (g.value m)) b.graph ∙ quiet)
   ]);
   other = λ m live was. inr (inr (ap (λ (g : Graph). g.value m) b.graph));
+  occur = λ m n. absurd n;
+  differ = λ m n. absurd n;
   wakes_taken = λ m n. absurd n;
   changed_taken = λ m n. absurd n;
 }
@@ -171,6 +181,8 @@ pub noted_built : (old : Graph) (at : Way) → ((m : ℕ) → at.graph.live m �
 noted_built old at q = record {
   occurring = λ m live. inr (inl (queued_is (at.queued m) (at.height m) (q m live)));
   other = λ m live was. inr (inl (queued_is (at.queued m) (at.height m) (q m live)));
+  occur = λ m n. absurd n;
+  differ = λ m n. absurd n;
   wakes_taken = λ m n. absurd n;
   changed_taken = λ m n. absurd n;
 }

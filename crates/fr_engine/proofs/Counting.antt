@@ -1,5 +1,5 @@
 -- How many numbers don't count as computed.
-use Rattle.std.proofs.Common.{◌≡◌, ◌⊎◌, inl, inr, ℕ, zero, suc, ◌+◌, ◌<◌, ◌≤◌, Bool, true, false, refl, sym, ap, ◌∙◌, arith}
+use Rattle.std.proofs.Common.{◌≡◌, inl, inr, ℕ, zero, suc, ◌+◌, ◌<◌, ◌≤◌, Bool, true, false, refl, sym, ap, ◌∙◌, arith}
 use Rattle.fr_way.specs.Way.{Way}
 use Rattle.fr_engine.specs.Running.{Advances}
 use Rattle.fr_engine.proofs.Cases.{by_number}

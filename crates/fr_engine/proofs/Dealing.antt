@@ -1,13 +1,12 @@
 -- A node that was taken is dealt with.
-use Rattle.std.proofs.Common.{◌≡◌, ◌≢◌, ◌⊎◌, inl, inr, ℕ, suc, ◌<◌, Bool, true, false, List, [], ◌∷◌, ◌++◌, length, Option, None, Some, Ok, Err, refl, ap, sym, ◌∙◌, subst, arith}
+use Rattle.std.proofs.Common.{◌≡◌, inl, inr, ℕ, ◌<◌, Bool, true, false, List, length, None, Some, Err, refl, ap, sym, ◌∙◌, subst, arith}
 use Rattle.std.specs.Option.{option_map}
 use Rattle.fr_value.specs.declared.ids.NodeId.{NodeId}
 use Rattle.fr_value.specs.declared.now.Now.{Now}
-use Rattle.fr_meaning.specs.Words.{test_of}
 use Rattle.fr_kernel.specs.Kernels.{Kernels}
 use Rattle.fr_kernel.specs.declared.fuel.KernStop.{KernStop}
 use Rattle.fr_kernel.specs.declared.fuel.KernStop.TheVariants as kern
-use Rattle.fr_graph.specs.Graph.{Part, Graph}
+use Rattle.fr_graph.specs.Graph.{Graph}
 use Rattle.fr_graph.specs.Walk.{Plan}
 use Rattle.fr_graph.specs.Known.{Reads}
 use Rattle.fr_events.specs.Works.{cell_of}
@@ -30,13 +29,13 @@ use Rattle.fr_nodes.specs.Signals.{IsSound, TakesNone, TakesOut}
 use Rattle.fr_engine.specs.declared.setting.Notes.{Notes}
 use Rattle.fr_engine.specs.Choices.{Buildable}
 use Rattle.fr_engine.specs.Moment.{Moment}
-use Rattle.fr_engine.specs.Notes.{Named, NotesNode, Settles}
-use Rattle.fr_engine.specs.Rules.{Computed, ComputedOr, Fits, HasKernels, IsKey, Refuses}
+use Rattle.fr_engine.specs.Notes.{NotesNode, Settles}
+use Rattle.fr_engine.specs.Rules.{Computed, ComputedOr, HasKernels, Refuses}
 use Rattle.fr_engine.specs.Running.{CanDeal, ErrsOnTheWay, HasKey, HasRun, IsOnItsWay, NotesChange, run_stop, Runs, Steps, TurnsBy}
 use Rattle.fr_engine.specs.Stops.{StopsWhere}
 use Rattle.fr_engine.specs.Turning.{CanTurn, HasTurned}
 use Rattle.fr_engine.proofs.Comes.{cell_before, errs_at}
-use Rattle.fr_engine.proofs.Settled.{taken_lives, fits, other_key, computes, noted, late_listed, still_unread, still_named, newly_named, only_named}
+use Rattle.fr_engine.proofs.Settled.{fits, other_key, computes, noted, late_listed, still_unread, still_named, newly_named, only_named}
 use Rattle.fr_engine.proofs.Keeping.{turned_way, turned_advances, computed_way, computed_advances}
 
 module _ (can : Buildable) (p : Plan) (many : ℕ) (sources : List Now) (t : Moment) (at taken : Way) (m : ℕ) (notes : Notes) (late : List NodeId)
@@ -93,7 +92,7 @@ module _ (can : Buildable) (p : Plan) (many : ℕ) (sources : List Now) (t : Mom
           under = o.under;
           dead = o.dead;
           fit = o.fit;
-          fed = o.fed;
+          fed = o.fed.there;
           takes = tk;
           watches = ap (λ (g : Graph). is_watch (g.kind m)) (sym same) ∙ by.0;
           told = by.2;

@@ -1,5 +1,5 @@
 -- What is left of lists where an instant ends, and that the graph rests then.
-use Rattle.std.proofs.Common.{◌≡◌, ◌⊎◌, inl, inr, ℕ, Bool, true, false, List, [], ◌∷◌, ◌++◌, sym, ap, ◌∙◌, subst, None, IsSome, Result, Ok, Err, OnOk, IfErr}
+use Rattle.std.proofs.Common.{◌≡◌, ◌≢◌, ◌⊎◌, inl, inr, ℕ, Bool, true, false, List, [], ◌∷◌, ◌++◌, sym, ap, ◌∙◌, subst, None, IsSome, Result, Ok, Err, OnOk, IfErr}
 use Rattle.fr_value.specs.declared.ids.NodeId.{NodeId}
 use Rattle.fr_core.specs.declared.lowered.LowItem.{LowItem}
 use Rattle.fr_value.specs.declared.now.Now.{Now}
@@ -11,6 +11,8 @@ use Rattle.fr_way.specs.Ends.{Takes, HasEndedWell}
 use Rattle.fr_engine.specs.declared.setting.Notes.{Notes}
 use Rattle.fr_engine.proofs.Latches.{takes}
 use Rattle.fr_graph.specs.Graph.{Graph}
+use Rattle.fr_way.specs.Burial.{Buries}
+use Rattle.fr_way.specs.Loop.{Closes as HasClosed}
 use Rattle.fr_way.specs.Way.{Way, occurs_now}
 use Rattle.fr_nodes.specs.Signals.{BuriesAll}
 use Rattle.fr_engine.specs.Notes.{Named, Lists, AreNoted, AreLate}
@@ -88,6 +90,16 @@ module _ (old : Graph) (at t new : Way) (wakes changed late living_wakes living_
   pub late_live : AreLive new.graph living_late
   late_live m n = b.live m ∙ (k.only m n).1
 
+  -- what is listed occurs
+  pub occur : (m : ℕ) → Named living_wakes m → occurs_now (new.graph.value m) ≡ true
+  occur m n =
+      let was = w.only m n in
+      ap occurs_now ((b.same m was.1).value ∙ l.value m) ∙ (noted.occur m was.0 (sym (l.shape.live m) ∙ was.1)).1
+
+  -- what is among those that changed hasn't the value that it had
+  pub differ : (m : ℕ) → Named changed m → new.graph.live m ≡ true → old.live m ≡ true → new.graph.value m ≢ old.value m
+  differ m n live had same = (noted.differ m n (sym (l.shape.live m) ∙ lived m live)).1 had (sym ((b.same m (lived m live)).value ∙ l.value m) ∙ same)
+
   -- what isn't among those that changed or occur has the value that it had and doesn't occur
   pub unchanged : (m : ℕ) → new.graph.live m ≡ true → old.live m ≡ true → Named changed m ⊎ (new.graph.value m ≡ old.value m)
   unchanged m live was = elim (noted.other m (sym (l.shape.live m) ∙ lived m live) was) [
@@ -98,6 +110,32 @@ module _ (old : Graph) (at t new : Way) (wakes changed late living_wakes living_
     ]
   ]
 
+-- what burying does is told of the graphs alone
+pub buries_graph : (t new : Way) → BuriesAll t new → Buries t.graph new.graph
+buries_graph t new b = record {
+  live = b.live;
+  kind = λ m live. (b.same m live).kind;
+  inputs = λ m live. (b.same m live).inputs;
+  later = λ m live. (b.same m live).later;
+  value = λ m live. (b.same m live).value;
+  cell = λ m live. (b.same m live).cell;
+  level = λ m live. (b.same m live).level;
+  era = λ m live. (b.same m live).era;
+  members = b.members;
+  result_of = λ m live watches. b.result_of m live;
+}
+
+-- an instant closes where the late works have taken their values and what ended is buried
+pub closes : (at t new : Way) (listed : List NodeId) → IsEmpty at.queued → AreLate at listed → Latched at t listed → BuriesAll t new → HasClosed at t.graph new
+closes at t new listed empty all l b = record {
+  empty = empty;
+  takes = takes at t listed all l;
+  buries = buries_graph t new b;
+  queue = λ m. b.queue m ∙ l.queue m ∙ empty m;
+  taken = λ m. b.taken m ∙ sym (b.live m);
+  heights = λ m live. b.height m (sym (b.live m) ∙ live) ∙ l.heights m;
+}
+
 -- AN INSTANT HAS ENDED WELL where the late works have taken their values and what ended is buried
 pub ends_well : (p : Plan) (is : List LowItem) (ms : List ℕ) (sources : List Now) (old : Graph) (at new : Way) (was notes : Notes) (listed late : List NodeId)
     → ((t : Graph) → Takes at.graph t → HasEndedWell p is ms sources old t at.height)
@@ -106,10 +144,13 @@ pub ends_well : (p : Plan) (is : List LowItem) (ms : List ℕ) (sources : List N
 ends_well p is ms sources old at new was notes listed late end empty noted all c = record {
   latched = c.latched;
   ended = end c.latched.graph (takes at c.latched listed all c.latches);
+  closes = closes at c.latched new listed empty all c.latches c.buries;
   buries = c.buries;
   rests = rests old at c.latched new was.wakes.items was.changed.items listed notes.wakes.items late empty noted all c.latches c.wakes c.late c.buries;
   wakes_live = wakes_live old at c.latched new was.wakes.items was.changed.items listed notes.wakes.items late empty noted all c.latches c.wakes c.late c.buries;
   late_live = late_live old at c.latched new was.wakes.items was.changed.items listed notes.wakes.items late empty noted all c.latches c.wakes c.late c.buries;
+  occur = occur old at c.latched new was.wakes.items was.changed.items listed notes.wakes.items late empty noted all c.latches c.wakes c.late c.buries;
+  differ = λ m n. differ old at c.latched new was.wakes.items was.changed.items listed notes.wakes.items late empty noted all c.latches c.wakes c.late c.buries m (subst (λ (ids : List NodeId). Named ids m) c.changed n);
   unchanged = λ m live had. elim (unchanged old at c.latched new was.wakes.items was.changed.items listed notes.wakes.items late empty noted all c.latches c.wakes c.late c.buries m live had) [
     | inl n ↦ inl (subst (λ (ids : List NodeId). Named ids m) (sym c.changed) n)
     | inr same ↦ inr same

@@ -1,28 +1,27 @@
 -- What is on its way stays so where a watch turns and where any other node is written.
-use Rattle.std.proofs.Common.{◌≡◌, ◌≢◌, ◌⊎◌, inl, inr, ℕ, suc, ◌<◌, ◌≤◌, Bool, true, false, List, [], ◌∷◌, length, Option, None, Some, IsSome, Ok, Err, Result, refl, ap, sym, ◌∙◌, subst}
+use Rattle.std.proofs.Common.{◌≡◌, ◌≢◌, ◌⊎◌, inl, inr, ℕ, true, false, List, [], length, Option, None, Some, IsSome, Ok, Err, refl, ap, sym, ◌∙◌, subst}
 use Rattle.std.specs.Option.{option_map}
 use Rattle.fr_value.specs.declared.ids.NodeId.{NodeId}
 use Rattle.fr_value.specs.declared.now.Now.{Now}
 use Rattle.fr_value.specs.declared.now.Now.TheVariants.{Plain, Occ}
-use Rattle.fr_core.specs.declared.lowered.Low.{Low}
 use Rattle.fr_meaning.specs.Words.{Seen, test_of}
-use Rattle.fr_graph.specs.Graph.{Part, Work, source, works, watch, result, Graph, is_late}
+use Rattle.fr_graph.specs.Graph.{result, Graph}
 use Rattle.fr_graph.specs.Walk.{Plan}
 use Rattle.fr_graph.specs.Wired.{Chosen, EraStands}
 use Rattle.fr_way.specs.Frame.{is_source, is_watch, occurs_now}
 use Rattle.fr_way.specs.Way.{Way, UnderWay}
 use Rattle.fr_way.specs.Steps.{SameShape, Computes, Rebuilds}
-use Rattle.fr_way.specs.Turns.{IsNew, Turns}
-use Rattle.fr_way.proofs.Cases.{bool_case, both_bools, by_number, number_case, watch_no_result, watch_no_source, watch_parts}
+use Rattle.fr_way.specs.Turns.{IsNew}
+use Rattle.fr_way.proofs.Cases.{bool_case, both_bools, by_number, watch_no_result, watch_parts}
 use Rattle.fr_way.proofs.Names.{inside_owned}
 use Rattle.fr_way.proofs.Computed.{computed_keeps}
 use Rattle.fr_way.proofs.Turn.{turned, turn_keeps, to_new}
 use Rattle.fr_way.proofs.TurnOrder.{turn_dead, computed_dead}
 use Rattle.fr_way.proofs.Used.{used_shape, used_rebuilt}
-use Rattle.fr_events.specs.Works.{HasKernel}
 use Rattle.fr_engine.specs.declared.setting.Notes.{Notes}
 use Rattle.fr_engine.specs.Choices.{Buildable, AreFit}
-use Rattle.fr_engine.specs.Moment.{Moment, HaveSources}
+use Rattle.fr_engine.specs.Beginning.{HaveSources}
+use Rattle.fr_engine.specs.Moment.{Moment}
 use Rattle.fr_engine.specs.Notes.{Named, AreLate, AreNoted}
 use Rattle.fr_engine.specs.Rules.{AreUnread, HasKernels}
 use Rattle.fr_engine.specs.Running.{Advances, IsOnItsWay}
@@ -127,12 +126,18 @@ module _ (can : Buildable) (p : Plan) (many : ℕ) (sources : List Now) (t : Mom
     ];
   }
 
-  fed : HaveSources n many
-  fed s lt =
-      let was = o.fed s lt in
-      let is = ap is_source was.1 in
-      let nl = b.stays s was.0 (λ i. inside_owned g w s i (o.under.frame.members.sources s was.0 is)) in
-      (nl, kind_on s was.0 nl ∙ was.1)
+  fed : HaveSources many n
+  fed = record {
+    there = λ s lt.
+        let was = o.fed.there s lt in
+        let is = ap is_source was.1 in
+        let nl = b.stays s was.0 (λ i. inside_owned g w s i (o.under.frame.members.sources s was.0 is)) in
+        (nl, kind_on s was.0 nl ∙ was.1);
+    only = λ m s nl k. elim (bool_case (g.live m)) [
+      | inl lv ↦ o.fed.only m s lv (sym (kind_on m lv nl) ∙ k)
+      | inr off ↦ both_bools (is_source (h.t3.graph.kind m)) (ap is_source (kind_built m ∙ k)) (h.turns.replaces.grows.built.no_source m (built_new m off nl))
+    ];
+  }
 
   -- a watch that hasn't chosen
   unread_on : (v : ℕ) → v ≢ w → g.live v ≡ true → n.live v ≡ true → is_watch (n.kind v) ≡ true → new.done v ≡ false → t.old.live v ≡ false → n.inputs (n.result_of v) ≡ []
@@ -181,6 +186,13 @@ module _ (can : Buildable) (p : Plan) (many : ℕ) (sources : List Now) (t : Mom
       let k = watch_parts (g.kind w) b.watches in
       told_quiet (EraStands n p w k.0 k.2) (EraStands n p w k.1 k.2) (n.value w) (b.stands k.0 k.1 k.2 k.3)
 
+  not_yet : at.done w ≡ false
+  not_yet = (o.under.nodes.queue w b.height b.least.was).2
+
+  -- a watch that turns has another value than before the instant
+  another : t.old.live w ≡ true → n.value w ≢ t.old.value w
+  another lived same = b.other_key lived (ap test_of (same ∙ sym (o.under.nodes.waits w lives not_yet lived).0))
+
   still_taken : (m : ℕ) → at.taken m ≡ true → new.taken m ≡ true
   still_taken m u = b.taken m (inl u)
 
@@ -211,6 +223,31 @@ module _ (can : Buildable) (p : Plan) (many : ℕ) (sources : List Now) (t : Mom
               | inl q ↦ inl (queued_on m ne lv nl q)
               | inr stays ↦ inr ((b.goes_on m ne lv nl).value ∙ stays)
             ])
+          ]
+        ]
+      ];
+      occur = λ m nm nl.
+          let was = subst (λ (l : List NodeId). Named l m) wakes nm in
+          elim (by_number m w) [
+            | inl e ↦ both_bools (at.done w) (o.noted.occur w (subst (Named notes.wakes.items) e was) lives).0 not_yet
+            | inr ne ↦ elim (bool_case (g.live m)) [
+              | inr off ↦ both_bools (at.taken m) (o.noted.wakes_taken m was) (b.born m off nl).fresh
+              | inl lv ↦
+                  let k = o.noted.occur m was lv in
+                  let goes = b.goes_on m ne lv nl in
+                  (goes.done ∙ k.0, ap occurs_now goes.value ∙ k.1)
+            ]
+          ];
+      differ = λ m nm nl. elim (by_number m w) [
+        | inl e ↦ (ap new.done e ∙ b.done, λ lived same. another (subst (λ (i : ℕ). t.old.live i ≡ true) e lived) (subst (λ (i : ℕ). n.value i ≡ t.old.value i) e same))
+        | inr ne ↦ elim (only m nm) [
+          | inl e ↦ absurd (ne e)
+          | inr was ↦ elim (bool_case (g.live m)) [
+            | inr off ↦ both_bools (at.taken m) (o.noted.changed_taken m was) (b.born m off nl).fresh
+            | inl lv ↦
+                let k = o.noted.differ m was lv in
+                let goes = b.goes_on m ne lv nl in
+                (goes.done ∙ k.0, λ lived same. k.1 lived (sym goes.value ∙ same))
           ]
         ]
       ];
@@ -282,7 +319,10 @@ module _ (can : Buildable) (p : Plan) (many : ℕ) (sources : List Now) (t : Mom
           (test.0, s.inputs w ∙ test.1);
       fits = λ w a b env nl k. o.fit.fits w a b env (sym (s.live w) ∙ nl) (sym (s.kind w) ∙ k);
     };
-    fed = λ i lt. let was = o.fed i lt in (s.live i ∙ was.0, s.kind i ∙ was.1);
+    fed = record {
+      there = λ i lt. let was = o.fed.there i lt in (s.live i ∙ was.0, s.kind i ∙ was.1);
+      only = λ j i nl k. o.fed.only j i (sym (s.live j) ∙ nl) (sym (s.kind j) ∙ k);
+    };
     unread = unread;
     noted = noted;
     listed = listed;

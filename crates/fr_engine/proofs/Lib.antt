@@ -9,3 +9,5 @@ mod Turned
 mod Keeping
 mod Counting
 mod Dealing
+mod Instants
+mod Built

@@ -235,6 +235,10 @@ module _ (p : Plan) (is : List LowItem) (ms : List ℕ) (sources : List Now) (ol
       | inr o ↦ there j o
     ]
 
+    -- the node had the value that it had before the instant
+    was_before : old.live m ≡ true → t.graph.value m ≡ old.value m
+    was_before lived = ap (λ (g : Graph). g.value m) tk.same.graph ∙ (u.nodes.waits m taken_there.0 taken_there.2 lived).0
+
     -- what was noted stays right where this node is noted too
     pub noted : (before after : Notes) → NotesNode t m now before after → AreNoted old at before.wakes.items before.changed.items → AreNoted old new after.wakes.items after.changed.items
     noted before after n a = record {
@@ -263,6 +267,26 @@ module _ (p : Plan) (is : List LowItem) (ms : List ℕ) (sources : List Now) (ol
             | inl q ↦ inl (still_queued j ne q)
             | inr stays ↦ inr (set_value j ne ∙ stays)
           ])
+        ]
+      ];
+      occur = λ j nm live. elim (by_number j m) [
+        | inl e ↦ elim (n.occurs_only (subst (λ (i : ℕ). Named after.wakes.items i) e nm)) [
+          | inl was ↦ no_both (at.done m) (a.occur m was taken_there.0).0 taken_there.2
+          | inr does ↦ (ap new.done e ∙ s.done_here, ap (λ (i : ℕ). occurs_now (new.graph.value i)) e ∙ ap occurs_now s.value_here ∙ does)
+        ]
+        | inr ne ↦ elim (n.wakes_only j nm) [
+          | inl e ↦ absurd (ne e)
+          | inr was ↦ let k = a.occur j was (sym (set_shape.live j) ∙ live) in (set_done j ne ∙ k.0, ap occurs_now (set_value j ne) ∙ k.1)
+        ]
+      ];
+      differ = λ j nm live. elim (by_number j m) [
+        | inl e ↦ elim (n.differs_only (subst (λ (i : ℕ). Named after.changed.items i) e nm)) [
+          | inl was ↦ no_both (at.done m) (a.differ m was taken_there.0).0 taken_there.2
+          | inr other ↦ (ap new.done e ∙ s.done_here, λ lived same. other (was_before (subst (λ (i : ℕ). old.live i ≡ true) e lived) ∙ sym (subst (λ (i : ℕ). new.graph.value i ≡ old.value i) e same) ∙ s.value_here))
+        ]
+        | inr ne ↦ elim (n.changed_only j nm) [
+          | inl e ↦ absurd (ne e)
+          | inr was ↦ let k = a.differ j was (sym (set_shape.live j) ∙ live) in (set_done j ne ∙ k.0, λ lived same. k.1 lived (sym (set_value j ne) ∙ same))
         ]
       ];
       wakes_taken = still_taken before.wakes.items after.wakes.items n.wakes_only a.wakes_taken;
@@ -322,13 +346,20 @@ pub only_named : (b : Bool) (old new : List NodeId) (m j : ℕ) → Lists b old 
 only_named true old new m j l n = named_in old m j (subst (λ (ids : List NodeId). Named ids j) l n)
 only_named false old new m j l n = inr (subst (λ (ids : List NodeId). Named ids j) l n)
 
+-- where a node is listed it was, or that was asked for
+asked_named : (b : Bool) (old new : List NodeId) (m : ℕ) → Lists b old new m → Named new m → Named old m ⊎ (b ≡ true)
+asked_named true old new m l n = inr refl
+asked_named false old new m l n = inl (subst (λ (ids : List NodeId). Named ids m) l n)
+
 pub notes_node : (occurs differs : Bool) (at : Way) (m : ℕ) (now : Now) (old new : Notes) → Lists occurs old.wakes.items new.wakes.items m → Lists differs old.changed.items new.changed.items m
-    → occurs_now (Ok now) ≡ occurs → (differs ≡ false → at.graph.value m ≡ Ok now) → NotesNode at m now old new
-notes_node occurs differs at m now old new l k o d = record {
+    → occurs_now (Ok now) ≡ occurs → (differs ≡ false → at.graph.value m ≡ Ok now) → (differs ≡ true → at.graph.value m ≢ Ok now) → NotesNode at m now old new
+notes_node occurs differs at m now old new l k o d x = record {
   wakes = λ j n. still_named occurs old.wakes.items new.wakes.items m j l n;
   changed = λ j n. still_named differs old.changed.items new.changed.items m j k n;
   occurs = elim (newly_named occurs old.wakes.items new.wakes.items m l) [ inl n ↦ inl n | inr f ↦ inr (o ∙ f) ];
   differs = elim (newly_named differs old.changed.items new.changed.items m k) [ inl n ↦ inl n | inr f ↦ inr (d f) ];
+  occurs_only = λ n. elim (asked_named occurs old.wakes.items new.wakes.items m l n) [ inl was ↦ inl was | inr needed ↦ inr (o ∙ needed) ];
+  differs_only = λ n. elim (asked_named differs old.changed.items new.changed.items m k n) [ inl was ↦ inl was | inr needed ↦ inr (x needed) ];
   wakes_only = λ j n. only_named occurs old.wakes.items new.wakes.items m j l n;
   changed_only = λ j n. only_named differs old.changed.items new.changed.items m j k n;
 }
@@ -340,3 +371,11 @@ ok_same a b e = cc
 pub value_stays : (sites : Sites) (at : Way) (m : ℕ) (n : Node) (now : Now) (r : Bool) → IsNodeOf sites at m n → (IsTrue r ↔ (now ≡ n.value)) → not r ≡ false → at.graph.value m ≡ Ok now
 value_stays sites at m n now true is same e = is.value ∙ ok_same n.value now (sym (same.0 refl))
 value_stays sites at m n now false is same e = absurd cc
+
+same_ok : (a b : Now) → Path Seen (Ok a) (Ok b) → a ≡ b
+same_ok a b e = cc
+
+-- a value that isn't the same as that of a stored node is another
+pub value_differs : (sites : Sites) (at : Way) (m : ℕ) (n : Node) (now : Now) (r : Bool) → IsNodeOf sites at m n → (IsTrue r ↔ (now ≡ n.value)) → not r ≡ true → at.graph.value m ≢ Ok now
+value_differs sites at m n now true is same e = λ kept. absurd cc
+value_differs sites at m n now false is same e = λ kept. let t : IsTrue false = same.1 (same_ok now n.value (sym kept ∙ is.value)) in absurd cc

@@ -1,5 +1,5 @@
 -- The steps of a turning, each by what is known behind the one before.
-use Rattle.std.proofs.Common.{◌≡◌, ◌≢◌, ◌⊎◌, inl, inr, ℕ, suc, ◌-◌, ◌<◌, ◌≤◌, Bool, true, false, if◌then◌else◌, List, [], ◌∷◌, Option, None, Some, Result, Ok, refl, ap, sym, ◌∙◌, subst, arith}
+use Rattle.std.proofs.Common.{◌≡◌, ℕ, suc, ◌-◌, ◌<◌, ◌≤◌, Bool, true, false, if◌then◌else◌, List, [], ◌∷◌, Option, None, Some, Result, Ok, refl, ap, sym, ◌∙◌, subst, arith}
 use Rattle.std.specs.Option.{option_map}
 use Rattle.fr_value.specs.declared.ids.NodeId.{NodeId}
 use Rattle.fr_value.specs.declared.ids.SiteId.{SiteId}
@@ -22,20 +22,20 @@ use Rattle.fr_way.specs.Frame.{Inside, is_source, is_watch}
 use Rattle.fr_way.specs.Fronts.{ErrsAt, stands_below}
 use Rattle.fr_way.specs.Order.{AreBelow}
 use Rattle.fr_way.specs.Steps.{SameShape}
-use Rattle.fr_way.specs.Way.{Way, cell_in, UnderWay}
-use Rattle.fr_way.specs.Turns.{IsSet, Kills, Leaves, Grows, IsClear, Rewires, Raises, Queues, Rechooses, chosen_part, Replaces}
+use Rattle.fr_way.specs.Way.{Way, cell_in}
+use Rattle.fr_way.specs.Turns.{IsSet, Kills, Leaves, Grows, Rewires, Queues, Rechooses, chosen_part, Replaces}
 use Rattle.fr_way.proofs.Names.{inside_same}
 use Rattle.fr_way.proofs.Middle.{ends_not_computed, left_clear, source_left, part_lives, result_lives}
 use Rattle.fr_way.proofs.Turn.{results_now}
-use Rattle.fr_way.proofs.TurnOrder.{levelled_but, turn_ordered, result_above, levelled_but_from, levelled_all, too_low_is_above, raises_by}
+use Rattle.fr_way.proofs.TurnOrder.{levelled_but, turn_ordered, result_above, levelled_all, too_low_is_above, raises_by}
 use Rattle.fr_nodes.specs.Kinds.{Sites, kind_of, parts_of}
-use Rattle.fr_nodes.specs.Signals.{IsNodeOf, IsSound, TakesOut, Writes, RaisesFrom}
+use Rattle.fr_nodes.specs.Signals.{IsNodeOf, IsSound, Writes, RaisesFrom}
 use Rattle.fr_engine.proofs.Comes.{value_on}
 use Rattle.fr_engine.specs.declared.stops.RunStop.{RunStop}
 use Rattle.fr_engine.specs.declared.stops.RunStop.TheVariants as stop
 use Rattle.fr_engine.specs.Stops.{StopsWhere}
 use Rattle.fr_engine.specs.Choices.{Buildable, Chooses, ChoiceFails}
-use Rattle.fr_engine.specs.Moment.{Moment, HaveSources}
+use Rattle.fr_engine.specs.Moment.{Moment}
 use Rattle.fr_engine.specs.Turning.{CanTurn, CanRenew, Renews, FailsToRenew, CanRaise, CanLead, Leads, HasTurned}
 
 -- all choices at sites show the same but for kinds

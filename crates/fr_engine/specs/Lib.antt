@@ -8,3 +8,4 @@ pub mod Stops
 pub mod Choices
 pub mod Turning
 pub mod Running
+pub mod Instant

@@ -14,6 +14,7 @@ use Rattle.fr_store.specs.declared.node.NodeKind.TheVariants as node
 use Rattle.fr_graph.specs.Graph.{Part, Work, Kind, source, works, watch, result, Graph, part_value, part_values, IsClean, work_line, is_late}
 use Rattle.fr_graph.specs.Known.{Reads, Rule}
 use Rattle.fr_graph.specs.Walk.{Plan}
+pub use Rattle.fr_events.specs.Works.{is_late_in}
 use Rattle.fr_events.specs.Works.{HasKernel, cell_of}
 use Rattle.fr_events.specs.declared.lines.Stepped.{Stepped}
 use Rattle.fr_way.specs.Frame.{is_watch}
@@ -123,11 +124,6 @@ WatchComes (Ok s) g q = GivesTold g q s.value
 WatchComes (Err (stop.Memory e)) g q = Unit {0}
 WatchComes (Err (stop.Bad b)) g q = IsUntold g q
 WatchComes (Err stop.Fuel) g q = ⊥
-
--- a work takes its last part's value behind the instant, and a node that is no work doesn't
-abbrev pub is_late_in : Option Work → Bool
-is_late_in None = false
-is_late_in (Some w) = is_late w
 
 -- this follows from a node's rule, and exactly its cost was spent
 pub record Comes (s : Stepped) (before after : ℕ) (g : Graph) (t : Kernels) (sources : List Now) (m : ℕ) (k : Kind) (ins : List Part) : Type 0 where

@@ -19,18 +19,19 @@ use Rattle.fr_engine.specs.declared.setting.Notes.{Notes}
 use Rattle.fr_engine.specs.declared.stops.RunStop.{RunStop}
 use Rattle.fr_engine.specs.declared.stops.RunStop.TheVariants as stop
 use Rattle.fr_engine.specs.Choices.{Buildable, AreFit}
-use Rattle.fr_engine.specs.Moment.{Moment, HaveSources}
+use Rattle.fr_engine.specs.Beginning.{HaveSources}
+use Rattle.fr_engine.specs.Moment.{Moment}
 use Rattle.fr_engine.specs.Notes.{AreLate, AreNoted}
 use Rattle.fr_engine.specs.Rules.{AreUnread, Computed, HasKernels, IsKey, KeepsKey}
 
--- an instant is under way, and beside it: what awaits burial is levelled, the program's members are used, kernels and sources are there, the choices of watches can be built, a watch that hasn't chosen has an unread result, and notes and late works are listed
+-- an instant is under way, and beside it: what awaits burial is levelled, the program's members are used, kernels are there, each source has its node, the choices of watches can be built, a watch that hasn't chosen has an unread result, and notes and late works are listed
 pub record IsOnItsWay (can : Buildable) (p : Plan) (many : ℕ) (sources : List Now) (t : Moment) (at : Way) (notes : Notes) (late : List NodeId) : Type 0 where
   pub under : UnderWay p t.items t.members sources t.old at
   pub dead : DeadAreLevelled at
   pub used : AreUsed at.graph p t.items t.members
   pub kernels : HasKernels p.table (length sources) at.graph
   pub fit : AreFit can at.graph
-  pub fed : HaveSources at.graph many
+  pub fed : HaveSources many at.graph
   pub unread : AreUnread t.old at
   pub noted : AreNoted t.old at notes.wakes.items notes.changed.items
   pub listed : AreLate at late

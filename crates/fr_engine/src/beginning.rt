@@ -2,7 +2,8 @@
 ghost use Rattle.std.specs.Prelude.{◌≡◌, ◌⊎◌, ◌<◌, ℕ, true, [], ◌∷◌, Ok, IsSome, IsTrue, OnOk, length};
 ghost use Rattle.std.specs.Option.{option_map};
 ghost use Rattle.fr_events.specs.Works.{cell_of};
-ghost use Rattle.fr_way.specs.Ends.{Begins, shown_of};
+ghost use Rattle.fr_way.specs.Ends.{shown_of};
+ghost use Rattle.fr_way.specs.Loop.{Starts};
 ghost use Rattle.fr_nodes.specs.Kinds.{Sites};
 ghost use Rattle.fr_nodes.specs.Signals.{Lives};
 ghost use Rattle.fr_engine.specs.Beginning.{AllLive, AreLive, HasNow, HaveSources, IsResting, KeptWoken, ListedWoken, SourcesWoken, Woken};
@@ -124,10 +125,10 @@ pub fn begin_instant<N: Signals>(
         AllLive (length sources.now) (N.way nodes.old sites).graph }
     requires wakes_live { (sites : Sites) × AreLive (N.way nodes.old sites).graph wakes.now }
     requires late_live { (sites : Sites) × AreLive (N.way nodes.old sites).graph late.now }
-    ensures begins { OnOk result ((sites : Sites) →
+    ensures starts { OnOk result ((sites : Sites) →
         HaveSources (length sources.now) (N.way nodes.old sites).graph →
         IsResting (N.way nodes.old sites) wakes.now late.now →
-        Begins sources.now (N.way nodes.old sites).graph (N.way nodes.new sites)) }
+        Starts sources.now (N.way nodes.old sites) (N.way nodes.new sites)) }
     ensures eras { (x : ℕ) → N.has_era nodes.new x ≡ N.has_era nodes.old x }
 {
     nodes.is_sound();

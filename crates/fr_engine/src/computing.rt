@@ -9,10 +9,10 @@ ghost use Rattle.fr_events.specs.Works.{work_of, HasKernel, cell_of};
 ghost use Rattle.fr_nodes.specs.Kinds.{Sites, parts_of};
 ghost use Rattle.fr_nodes.specs.Makes.{AreThere};
 ghost use Rattle.fr_nodes.specs.Signals.{Lives};
-ghost use Rattle.fr_engine.specs.Rules.{HasKernels, role_of as role_in, is_late_in, only_of, KeepsCell, WorkComes, WatchComes, GivesPassed, ComputedOr};
+ghost use Rattle.fr_engine.specs.Rules.{HasKernels, role_of as role_in, only_of, KeepsCell, WorkComes, WatchComes, GivesPassed, ComputedOr};
 
 use crate::values::{input_test, input_value, input_values, only_input};
-use fr_events::{Stepped, step};
+use fr_events::{Stepped, is_late, step};
 use fr_kernel::{Fuel, KernStop, KernTable, Machine};
 use fr_nodes::Signals;
 use fr_store::{Cell, Node, NodeCell, NodeKind, SeenCell};
@@ -40,16 +40,6 @@ fn role_of(kind: &NodeKind) -> Role
         NodeKind::IfWatch(_, _) => Role::Watched,
         NodeKind::Result => Role::Passed,
         _ => Role::Worked,
-    }
-}
-
-/// Whether a node takes its last part's value behind the instant.
-pub(crate) fn is_late(kind: &NodeKind) -> bool
-    ensures { result ≡ is_late_in (work_of kind.now) }
-{
-    match kind {
-        NodeKind::Delay | NodeKind::DelayE | NodeKind::Feedback => true,
-        _ => false,
     }
 }
 

@@ -11,9 +11,8 @@ ghost use Rattle.fr_nodes.specs.Signals.{Lives};
 ghost use Rattle.fr_engine.specs.Notes.{AreTaken};
 ghost use Rattle.fr_engine.specs.Latching.{Latched, LatchRefused, LatersLive, TakesOr};
 
-use crate::computing::is_late;
 use crate::values::input_value;
-use fr_events::{LatchStop, latched};
+use fr_events::{LatchStop, is_late, latched};
 use fr_nodes::Signals;
 use fr_store::{Cell, Input, NodeKind};
 use fr_value::NodeId;

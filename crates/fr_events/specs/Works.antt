@@ -1,5 +1,5 @@
 -- What a node of the store is in the graph of signals: its work, and what its cell holds.
-use Rattle.std.specs.Prelude.{ℕ, ◌<◌, length, Option, Some, None}
+use Rattle.std.specs.Prelude.{ℕ, ◌<◌, Bool, false, length, Option, Some, None}
 use Rattle.std.specs.Option.{option_map}
 use Rattle.fr_core.specs.declared.core_form.Operator.TheVariants as operator
 use Rattle.fr_core.specs.declared.core_form.Handler.TheVariants as handler
@@ -14,7 +14,7 @@ use Rattle.fr_store.specs.declared.cell.SeenCell.{SeenCell}
 use Rattle.fr_store.specs.Rows.{cell_of as cell_seen}
 use Rattle.fr_meaning.specs.Cells.{Cell, datum, payload}
 use Rattle.fr_kernel.specs.Kernels.{Kernels}
-use Rattle.fr_graph.specs.Graph.{Work, operates, handles, loops, runs, feeds}
+use Rattle.fr_graph.specs.Graph.{Work, operates, handles, loops, runs, feeds, is_late}
 use Rattle.fr_events.specs.declared.works.NodeWork.{NodeWork}
 use Rattle.fr_events.specs.declared.works.NodeWork.TheVariants as node_work
 
@@ -44,6 +44,11 @@ work_of kind.OnceE = Some (operates operator.OnceE)
 work_of kind.Delay = Some (operates operator.Delay)
 work_of kind.DelayE = Some (operates operator.DelayE)
 work_of kind.Feedback = Some feeds
+
+-- a work takes its last part's value behind the instant, and a node that is no work doesn't
+abbrev pub is_late_in : Option Work → Bool
+is_late_in None = false
+is_late_in (Some w) = is_late w
 
 -- the kernel that a work runs is one of these
 abbrev pub HasKernel : Kernels → Work → Type 0

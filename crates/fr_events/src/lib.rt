@@ -15,3 +15,4 @@ mod works;
 pub use latching::{LatchStop, latched};
 pub use lines::Stepped;
 pub use stepping::step;
+pub use works::is_late;

@@ -2,7 +2,7 @@
 ghost use Rattle.std.specs.Prelude.{◌≡◌};
 ghost use Rattle.std.specs.Option.{option_map};
 ghost use Rattle.fr_forms.specs.Lent.{cell_of as form_cell, next_of, earlier};
-ghost use Rattle.fr_events.specs.Works.{code_work, work_of as node_work_of, graph_work, cell_of, cell_at};
+ghost use Rattle.fr_events.specs.Works.{code_work, work_of as node_work_of, is_late_in, graph_work, cell_of, cell_at};
 
 use fr_core::{Handler, Loop, Operator};
 use fr_forms::LentCell;
@@ -57,6 +57,16 @@ pub(crate) fn work_of(kind: &NodeKind) -> Option<NodeWork>
         NodeKind::Delay => Some(NodeWork::Operates(Operator::Delay)),
         NodeKind::DelayE => Some(NodeWork::Operates(Operator::DelayE)),
         NodeKind::Feedback => Some(NodeWork::Feeds),
+    }
+}
+
+/// Whether a node takes its last part's value behind the instant.
+pub fn is_late(kind: &NodeKind) -> bool
+    ensures { result ≡ is_late_in (node_work_of kind.now) }
+{
+    match kind {
+        NodeKind::Delay | NodeKind::DelayE | NodeKind::Feedback => true,
+        _ => false,
     }
 }
 

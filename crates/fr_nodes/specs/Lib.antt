@@ -1,3 +1,4 @@
 pub mod Kinds
 pub mod Makes
+pub mod Listed
 pub mod Signals

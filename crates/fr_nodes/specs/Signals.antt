@@ -106,7 +106,7 @@ pub record BuriesAll (at new : Way) : Type 0 where
   pub members : (x : ℕ) → new.graph.members x ≡ at.graph.members x
   pub result_of : (m : ℕ) → at.graph.live m ≡ true → new.graph.result_of m ≡ at.graph.result_of m
 
--- two graphs under way have the same but for the kinds of nodes
+-- two graphs under way have the same but for the kinds of watches
 pub record AreAlike (at other : Way) : Type 0 where
   pub live : (m : ℕ) → other.graph.live m ≡ at.graph.live m
   pub inputs : (m : ℕ) → other.graph.inputs m ≡ at.graph.inputs m
@@ -118,12 +118,13 @@ pub record AreAlike (at other : Way) : Type 0 where
   pub members : (x : ℕ) → other.graph.members x ≡ at.graph.members x
   pub result_of : (m : ℕ) → other.graph.result_of m ≡ at.graph.result_of m
   pub watches : (m : ℕ) → is_watch (other.graph.kind m) ≡ is_watch (at.graph.kind m)
+  pub kinds : (m : ℕ) → is_watch (at.graph.kind m) ≡ false → other.graph.kind m ≡ at.graph.kind m
   pub taken : (m : ℕ) → other.taken m ≡ at.taken m
   pub heights : (m : ℕ) → other.height m ≡ at.height m
   pub done : (m : ℕ) → other.done m ≡ at.done m
   pub queue : (m : ℕ) → other.queued m ≡ at.queued m
 
--- what holds of every graph under way: only kinds depend on the choices at sites, live nodes are in use, what is queued is in use and stands at its height, and the numbers in use are small
+-- what holds of every graph under way: only the kinds of watches depend on the choices at sites, live nodes are in use, what is queued is in use and stands at its height, and the numbers in use are small
 pub record IsSound (way : Sites → Way) : Type 0 where
   pub alike : (a b : Sites) → AreAlike (way a) (way b)
   pub taken : (s : Sites) (m : ℕ) → (way s).graph.live m ≡ true → (way s).taken m ≡ true

@@ -3,6 +3,7 @@ ghost use Rattle.std.specs.Option.{option_map};
 ghost use Rattle.fr_events.specs.Works.{cell_of};
 ghost use Rattle.fr_graph.specs.Graph.{result};
 ghost use Rattle.fr_nodes.specs.Kinds.{Sites, part_of};
+ghost use Rattle.fr_nodes.specs.Listed.{ListsLate};
 ghost use Rattle.fr_nodes.specs.Makes.{AreThere};
 ghost use Rattle.fr_nodes.specs.Signals.{BuriesAll, IsAnew, IsNodeOf, IsSound, Latches, Lives, QueuesReaders, RaisesFrom, TakesNone, TakesOut, Writes};
 ghost use Rattle.fr_queue.specs.Queue.{IsEmpty};
@@ -101,6 +102,13 @@ pub trait Signals: Nodes {
         requires { Lives (Self.way self.old) id.0 }
         ensures latches { (sites : Sites) → Latches (Self.way self.old sites) (Self.way self.new sites) id.0 (cell_of cell) }
         ensures eras { (x : ℕ) → Self.has_era self.new x ≡ Self.has_era self.old x };
+
+    /// Lists those members of an era that take their last part's value behind the instant, behind what was listed. It fails
+    /// only where memory is wanting.
+    fn list_late(&self, era: EraId, late: &mut Vec<NodeId>) -> Result<(), AllocError>
+        requires { IsTrue (Self.has_era self.now era.0) }
+        ensures { OnOk result ((sites : Sites) →
+            ListsLate (Self.way self.now sites).graph era.0 late.old.items late.new.items) };
 
     /// Gives up the numbers of all nodes that have ended, where nothing is queued. It takes no memory.
     fn bury(&mut self)

@@ -53,13 +53,17 @@ pub record IsReadyAt (table : Kernels) (sources : ℕ) (s : Place) : Type 0 wher
   pub sound : IsSoundAt table s
   pub names : NamesInScope s.variables sources (out-Low s.expr)
 
+-- a fact holds at all places of each of these, where so many variables are in scope
+abbrev pub EachEverywhere : (Place → Type 0) → ℕ → List Low → Type 0
+EachEverywhere P n [] = Unit {0}
+EachEverywhere P n (e ∷ es) = Everywhere P (record { variables = n; expr = e }) × EachEverywhere P n es
+
 -- an expression can be built, where so many variables are in scope
 abbrev pub IsReady : Planned → ℕ → Low → Type 0
 IsReady planned n e = Everywhere (IsReadyAt planned.table planned.sources) (record { variables = n; expr = e })
 
 abbrev pub AreReady : Planned → ℕ → List Low → Type 0
-AreReady planned n [] = Unit {0}
-AreReady planned n (e ∷ es) = IsReady planned n e × AreReady planned n es
+AreReady planned n es = EachEverywhere (IsReadyAt planned.table planned.sources) n es
 
 -- the bodies of all functions can be built, and every kernel is pure
 pub record IsPlanReady (planned : Planned) : Type 0 where
@@ -77,8 +81,7 @@ Matches sites n e = Everywhere (λ s. HasChoices sites (out-Low s.expr)) (record
 
 -- so it is of each of these
 abbrev pub AllMatch : Sites → ℕ → List Low → Type 0
-AllMatch sites n [] = Unit {0}
-AllMatch sites n (e ∷ es) = Matches sites n e × AllMatch sites n es
+AllMatch sites n es = EachEverywhere (λ s. HasChoices sites (out-Low s.expr)) n es
 
 -- and of all functions
 pub record PlanMatches (sites : Sites) (planned : Planned) : Type 0 where

@@ -1,5 +1,6 @@
 mod Results
 mod Each
+mod Begun
 mod Changes
 mod Readers
 mod Says

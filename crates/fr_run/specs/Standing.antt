@@ -1,11 +1,12 @@
 -- What an evaluator of instants stands for.
-use Rattle.std.specs.Prelude.{ℕ, ◌≡◌, ◌≢◌, ◌<◌, ◌⊎◌, List, length, map, slice_get, Contains, Ok, Some, None}
+use Rattle.std.specs.Prelude.{ℕ, ◌≡◌, ◌≢◌, ◌<◌, ◌⊎◌, List, [], length, map, slice_get, Contains, Result, Ok, IfOk, IfErr, Some, None}
 use Rattle.fr_value.specs.declared.value.Value.{Value}
 use Rattle.fr_value.specs.declared.now.Now.{Now}
 use Rattle.fr_value.specs.declared.now.Now.TheVariants.{Occ}
 use Rattle.fr_core.specs.declared.program.Program.{Program}
+use Rattle.fr_core.specs.WellFormed.{IsWellFormed}
 use Rattle.fr_meaning.specs.Words.{Seen}
-use Rattle.fr_meaning.specs.Afresh.{State, Instant, handed_on}
+use Rattle.fr_meaning.specs.Afresh.{State, Instant, beginning, first_instant, handed_on, instant}
 use Rattle.fr_show.specs.declared.stop.Stop.{Stop}
 use Rattle.fr_show.specs.declared.stop.Stop.TheVariants as stop
 use Rattle.fr_show.specs.Shows.{RiseFrom}
@@ -47,6 +48,17 @@ pub record NamesChanges (before now : List Now) (numbers : List ℕ) : Type 0 wh
 abbrev pub IsCause : InstantStop → Instant → Type 0
 IsCause (Memory e) n = Unit {0}
 IsCause Errs n = n.evaluated.first ≢ None
+
+-- it stands behind instant 0 of its program, in which nothing errs, and names what it shows
+pub record HasBegun (stands_for : State → Type 0) (e : Standing) : Type 0 where
+  pub behind : IsBehind stands_for e e.program (instant e.program (beginning e.program) first_instant)
+  pub changed : NamesChanges [] e.shown e.changed
+
+-- instant 0 of a program was evaluated, or stopped
+pub record WasBegun {E : Type 0} (stands_for : E → State → Type 0) (standing : E → Standing) (p : Program) (begun : Result E InstantStop) : Type 0 where
+  pub well_formed : IsWellFormed p
+  pub ok : IfOk begun (λ e. ((standing e).program ≡ p) × HasBegun (stands_for e) (standing e))
+  pub err : IfErr begun (λ stop. IsCause stop (instant p (beginning p) first_instant))
 
 -- the stop of an instant of this time that wasn't evaluated to its end
 abbrev pub unfinished : InstantStop → ℕ → Stop

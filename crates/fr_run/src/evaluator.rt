@@ -1,14 +1,14 @@
 //! What evaluates a program, instant by instant.
 
-ghost use Rattle.std.specs.Prelude.{◌≡◌, ◌≤◌, [], IfOk, IfErr};
+ghost use Rattle.std.specs.Prelude.{◌≡◌, ◌≤◌, IfOk, IfErr};
 ghost use Rattle.fr_core.specs.Sets.{greatest_time};
 ghost use Rattle.fr_core.specs.WellFormed.{IsWellFormed};
-ghost use Rattle.fr_meaning.specs.Afresh.{State, beginning, first_instant, instant as instant_after};
-ghost use Rattle.fr_run.specs.Standing.{Standing, IsBehind, NamesChanges, IsCause};
+ghost use Rattle.fr_meaning.specs.Afresh.{State, instant as instant_after};
+ghost use Rattle.fr_run.specs.Standing.{Standing, IsBehind, NamesChanges, IsCause, StandsForSome};
 
 use fr_core::{Inputs, Program};
 use fr_value::Now;
-use std::alloc::{AllocError, Global};
+use std::alloc::AllocError;
 
 /// Why an instant wasn't evaluated to its end.
 #[derive(Drop)]
@@ -40,25 +40,14 @@ pub trait Evaluator: Drop {
     /// is one of them, but an evaluator needn't tell which.
     ghost stands_for: { Self → State → Type 0 };
 
-    /// Evaluates instant 0 of a program, which has time 0 and sets nothing. It fails with `Errs` only where that instant
-    /// errs, and is never Ok there; with `Memory` where there is no memory. After an error nothing is left to go on with.
-    fn start(alloc: Global, program: Program) -> Result<Self, InstantStop>
-        requires well_formed { IsWellFormed program }
-        ensures ok { IfOk result (λ e.
-            let n = instant_after program (beginning program) first_instant in
-            IsBehind (stands_for e) (standing e) program n) }
-        ensures changed { IfOk result (λ e.
-            NamesChanges [] (standing e).shown (standing e).changed) }
-        ensures err { IfErr result (λ stop.
-            let n = instant_after program (beginning program) first_instant in
-            IsCause stop n) };
-
     /// Evaluates the next instant, over what the last one handed on, whichever of its states that
     /// is: it is Ok only where the instant errs over none of them, and fails with `Errs` only where
-    /// it errs over each. The time is at most 9,223,372,036,854,775,807, the greatest integer of
-    /// the language. The errors are those of `start`.
+    /// it errs over each, with `Memory` where there is no memory. The time is at most
+    /// 9,223,372,036,854,775,807, the greatest integer of the language. After an error nothing is
+    /// left to go on with.
     fn instant(self, inputs: &Inputs) -> Result<Self, InstantStop>
         requires well_formed { IsWellFormed (standing self).program }
+        requires stands { StandsForSome (stands_for self) }
         requires time { inputs.now.time ≤ greatest_time }
         ensures ok { IfOk result (λ e. (s : State) → stands_for self s →
             let p = (standing self).program in

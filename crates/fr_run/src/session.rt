@@ -1,26 +1,27 @@
 //! The run of a program over a script, by an evaluator of instants.
-ghost use Rattle.std.specs.Prelude.{◌≡◌, ◌≢◌, ◌≤◌, List, ℕ, [], ◌∷◌, true, length, Option, None, IfOk, IfErr, OnOk, IsErrOf};
+ghost use Rattle.std.specs.Prelude.{◌≡◌, ◌≢◌, ◌≤◌, List, ℕ, [], ◌∷◌, true, length, None, IfOk, IfErr, OnOk, IsErrOf};
 ghost use Rattle.std.specs.Io.KnownBytes.{Appends};
 ghost use Rattle.fr_io.specs.Faults.{FailsAs, Counts};
 ghost use Rattle.fr_io.specs.Shelves.{Reads};
 ghost use Rattle.fr_core.specs.Sets.{greatest_time};
 ghost use Rattle.fr_core.specs.WellFormed.{IsWellFormed};
+ghost use Rattle.fr_core.specs.declared.program.Program.{Program};
 ghost use Rattle.fr_meaning.specs.Texts.{instant_text, next_each};
 ghost use Rattle.fr_meaning.specs.Afresh.{State, beginning, first_instant, instant as instant_after};
 ghost use Rattle.fr_show.specs.Ends.{EndsThere, StopSays, Begins};
 ghost use Rattle.fr_show.specs.Output.{program_course};
 ghost use Rattle.fr_show.specs.Shows.{AreAllPrinted};
 ghost use Rattle.fr_run.specs.Scripts.{IsFedSome};
-ghost use Rattle.fr_run.specs.Standing.{StandsForSome, seen_of, unfinished};
+ghost use Rattle.fr_run.specs.Standing.{HasBegun, StandsForSome, WasBegun, seen_of, unfinished};
 ghost use Rattle.fr_run.specs.Written.{AreShowsOf, HaveTextsOf, Wrote, CutShort, StopsIn};
-ghost use Rattle.fr_run.specs.Session.{OnAhead, OnScript, OnProgram, OnText, TextSays, IsReadToEnd};
+ghost use Rattle.fr_run.specs.Session.{OnAhead, OnScript, OnProgram, IsReadToEnd};
 
 use crate::evaluator::{Evaluator, InstantStop};
 use crate::turns::{SCRIPT_LIMIT, next_instant, reader_of};
-use fr_core::{Inputs, Program};
+use fr_core::Inputs;
 use fr_io::{FileStop, Shelf, Sink, read_up_to, write_all};
 use fr_script::ScriptReader;
-use fr_show::{Shows, Stop, accept};
+use fr_show::{Shows, Stop};
 use std::alloc::Global;
 
 /// Writes the text of the instant of this time that an evaluator stands behind. Only shows that may
@@ -65,30 +66,25 @@ fn stop_at(stop: InstantStop, time: u64) -> Stop
     }
 }
 
-/// Runs instant 0 of a program, and writes its text once the whole instant is done.
-fn begin<E: Evaluator, O: Sink>(
-    alloc: Global,
-    program: Program,
+/// Writes the text of instant 0, behind which an evaluator stands.
+fn write_first<E: Evaluator, O: Sink>(
+    evaluator: &E,
     shows: &mut Shows,
     out: &mut O,
-) -> Result<E, Stop>
-    requires well_formed { IsWellFormed program }
-    requires one_each { AreShowsOf shows.old program }
-    ensures ok { IfOk result (λ e.
-        let n = instant_after program (beginning program) first_instant in
-        Wrote (E.stands_for e) (E.standing e) program n 0 shows.old shows.new
+) -> Result<(), Stop>
+    requires begun { HasBegun (E.stands_for evaluator.now) (E.standing evaluator.now) }
+    requires one_each { AreShowsOf shows.old (E.standing evaluator.now).program }
+    ensures ok { OnOk result (let p = (E.standing evaluator.now).program in
+        let n = instant_after p (beginning p) first_instant in
+        Wrote (E.stands_for evaluator.now) (E.standing evaluator.now) p n 0 shows.old shows.new
         (O.written out.old) (O.written out.new)) }
-    ensures err { IfErr result (λ stop. StopsIn stop program (beginning program) first_instant
-        shows.old (O.written out.old) (O.written out.new)) }
+    ensures err { IfErr result (λ stop. let p = (E.standing evaluator.now).program in
+        StopsIn stop p (beginning p) first_instant shows.old (O.written out.old) (O.written out.new)) }
     ensures no_read { IsErrOf result Stop.Read → ⊥ }
     ensures counts { Counts (FailsAs result Stop.Write) (O.faults out.old) (O.faults out.new) }
 {
-    let evaluator = match E::start(alloc, program) {
-        Ok(evaluator) => evaluator,
-        Err(stop) => return Err(stop_at(stop, 0)),
-    };
-    match write_text(&evaluator, 0, shows, out) {
-        Ok(()) => Ok(evaluator),
+    match write_text(evaluator, 0, shows, out) {
+        Ok(()) => Ok(()),
         Err(stop) => Err(stop),
     }
 }
@@ -202,77 +198,83 @@ fn run_script<E: Evaluator, S: Shelf, O: Sink>(
     }
 }
 
-/// Runs a program over a script: instant 0 first, and then the instants of the script.
-fn run_program<E: Evaluator, S: Shelf, O: Sink>(
+/// Runs a program over a script from where an evaluator stands behind instant 0.
+fn run_from<E: Evaluator, S: Shelf, O: Sink>(
     alloc: Global,
-    program: Program,
+    evaluator: E,
     script: &str,
     shelf: &mut S,
     out: &mut O,
 ) -> Result<(), Stop>
-    requires well_formed { IsWellFormed program }
-    ensures ok { OnOk result (OnProgram (S.holds shelf.old script.now) program
+    requires well_formed { IsWellFormed (E.standing evaluator).program }
+    requires begun { HasBegun (E.stands_for evaluator) (E.standing evaluator) }
+    ensures ok { OnOk result (OnProgram (S.holds shelf.old script.now)
+        (E.standing evaluator).program
         (λ c. EndsThere None c (O.written out.old) (O.written out.new))) }
-    ensures err { IfErr result (λ stop. OnProgram (S.holds shelf.old script.now) program
+    ensures err { IfErr result (λ stop. OnProgram (S.holds shelf.old script.now)
+        (E.standing evaluator).program
         (λ c. StopSays stop c (O.written out.old) (O.written out.new))) }
     ensures to_end { OnOk result (IsReadToEnd script.now (S.holds shelf.old)
         (S.reached shelf.old) (S.reached shelf.new)) }
     ensures began { FailsAs result Stop.Read → (file : List ℕ) →
-        Begins (program_course program file true) (O.written out.old) (O.written out.new) }
+        Begins (program_course (E.standing evaluator).program file true)
+        (O.written out.old) (O.written out.new) }
     ensures shelf { Reads (script.now ∷ []) (FailsAs result Stop.Read)
         (S.holds shelf.old) (S.holds shelf.new) (S.reached shelf.old) (S.reached shelf.new)
         (S.faults shelf.old) (S.faults shelf.new) }
     ensures counts { Counts (FailsAs result Stop.Write) (O.faults out.old) (O.faults out.new) }
 {
-    let mut shows = match Shows::new(alloc, &program) {
+    let mut shows = match Shows::new(alloc, evaluator.program()) {
         Ok(shows) => shows,
         Err(e) => return Err(Stop::Memory(e)),
     };
-    let evaluator: E = match begin(alloc, program, &mut shows, out) {
-        Ok(evaluator) => evaluator,
+    match write_first(&evaluator, &mut shows, out) {
+        Ok(()) => {}
         Err(stop) => return Err(stop),
-    };
+    }
     match run_script(alloc, evaluator, script, &mut shows, shelf, out) {
         Ok(()) => Ok(()),
         Err(stop) => Err(stop),
     }
 }
 
-/// Accepts the program that a text is, and runs it over a script by an evaluator of its instants, whichever that is.
+/// Runs a program over a script, where instant 0 was evaluated, or stopped: it writes the text of instant 0, reads the
+/// script to its end, and runs its instants, each written once the whole instant is done.
 ///
-/// `program` is the text, or its first bytes where they are more than 1,048,576. Instant 0 is run and its text written
-/// before the script is first read; then the script is read to its end, and each of its instants is run, its text
-/// written once the whole instant is done. After `Ok` all texts of the program's course were appended to `out`, and the
-/// script was read to its end. `Stop::Program` comes before anything is written. `Stop::Script` comes behind the whole
-/// instants before the bad line, and `Stop::Evaluation` behind those before the instant that errs. After `Stop::Read`,
-/// which comes exactly where the script's count of faults rose, the program is accepted and exactly the text of instant
-/// 0 was written; after `Stop::Write`, which comes exactly where the count of `out` rose, some first bytes of the
-/// course's texts, but not all; after `Stop::Memory` a whole number of texts. No other file is read.
-pub fn run_session<E: Evaluator, S: Shelf, O: Sink>(
+/// After `Ok` all texts of the program's course were appended to `out`, and the script was read to its end. `Stop::Script`
+/// comes behind the whole instants before the bad line, and `Stop::Evaluation` behind those before the instant that errs.
+/// After `Stop::Read`, which comes exactly where the script's count of faults rose, exactly the text of instant 0 was
+/// written; after `Stop::Write`, which comes exactly where the count of `out` rose, some first bytes of the course's
+/// texts, but not all; after `Stop::Memory` a whole number of texts. No other file is read.
+pub fn run_begun<E: Evaluator, S: Shelf, O: Sink>(
     alloc: Global,
-    program: &[u8],
+    begun: Result<E, InstantStop>,
     script: &str,
     shelf: &mut S,
     out: &mut O,
 ) -> Result<(), Stop>
-    ensures ok { OnOk result (OnText (S.holds shelf.old script.now) program.now
+    requires { (p : Program) × WasBegun E.stands_for E.standing p begun }
+    ensures ok { OnOk result ((p : Program) → WasBegun E.stands_for E.standing p begun →
+        OnProgram (S.holds shelf.old script.now) p
         (λ c. EndsThere None c (O.written out.old) (O.written out.new))) }
-    ensures err { IfErr result (λ stop. TextSays stop (S.holds shelf.old script.now) program.now
-        (O.written out.old) (O.written out.new)) }
+    ensures err { IfErr result (λ stop. (p : Program) → WasBegun E.stands_for E.standing p begun →
+        OnProgram (S.holds shelf.old script.now) p
+        (λ c. StopSays stop c (O.written out.old) (O.written out.new))) }
     ensures to_end { OnOk result (IsReadToEnd script.now (S.holds shelf.old)
         (S.reached shelf.old) (S.reached shelf.new)) }
-    ensures began { FailsAs result Stop.Read → (any : Option (List ℕ)) →
-        OnText any program.now (λ c. Begins c (O.written out.old) (O.written out.new)) }
+    ensures began { FailsAs result Stop.Read → (p : Program) →
+        WasBegun E.stands_for E.standing p begun → (file : List ℕ) →
+        Begins (program_course p file true) (O.written out.old) (O.written out.new) }
     ensures shelf { Reads (script.now ∷ []) (FailsAs result Stop.Read)
         (S.holds shelf.old) (S.holds shelf.new) (S.reached shelf.old) (S.reached shelf.new)
         (S.faults shelf.old) (S.faults shelf.new) }
     ensures counts { Counts (FailsAs result Stop.Write) (O.faults out.old) (O.faults out.new) }
 {
-    let program = match accept(alloc, program) {
-        Ok(program) => program,
-        Err(stop) => return Err(stop.into_stop()),
+    let evaluator = match begun {
+        Ok(evaluator) => evaluator,
+        Err(stop) => return Err(stop_at(stop, 0)),
     };
-    match run_program::<E, S, O>(alloc, program, script, shelf, out) {
+    match run_from(alloc, evaluator, script, shelf, out) {
         Ok(()) => Ok(()),
         Err(stop) => Err(stop),
     }

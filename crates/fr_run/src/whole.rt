@@ -3,7 +3,8 @@
 ghost use Rattle.std.specs.Prelude.{◌≡◌, ℕ, List, IfOk, IfErr};
 ghost use Rattle.fr_meaning.specs.Afresh.{Instant};
 ghost use Rattle.fr_afresh.specs.Stands.{shown_of, Leaves, ErrsBy};
-ghost use Rattle.fr_run.specs.Standing.{IsBehind, NamesChanges, IsCause};
+ghost use Rattle.fr_core.specs.WellFormed.{IsWellFormed};
+ghost use Rattle.fr_run.specs.Standing.{IsBehind, NamesChanges, IsCause, WasBegun};
 ghost use Rattle.fr_run.specs.Whole.{standing_of, IsItsState};
 
 use crate::evaluator::{Evaluator, InstantStop};
@@ -70,20 +71,27 @@ fn stand_behind(
     })
 }
 
-impl Evaluator for WholeEvaluator {
-    ghost use Rattle.fr_run.specs.Whole.{standing_of, IsItsState};
-
-    ghost standing = { standing_of };
-
-    ghost stands_for = { IsItsState };
-
-    fn start(alloc: Global, program: Program) -> Result<WholeEvaluator, InstantStop> {
+impl WholeEvaluator {
+    /// Evaluates instant 0 of a program, which has time 0 and sets nothing. It fails with `Errs` only where that instant
+    /// errs, and is never Ok there; with `Memory` where there is no memory. After an error nothing is left to go on with.
+    pub fn start(alloc: Global, program: Program) -> Result<WholeEvaluator, InstantStop>
+        requires well_formed { IsWellFormed program }
+        ensures { WasBegun IsItsState standing_of program result }
+    {
         let first = Inputs {
             time: 0,
             sets: Sets::new(alloc),
         };
         stand_behind(alloc, Afresh::start(alloc, program, &first))
     }
+}
+
+impl Evaluator for WholeEvaluator {
+    ghost use Rattle.fr_run.specs.Whole.{standing_of, IsItsState};
+
+    ghost standing = { standing_of };
+
+    ghost stands_for = { IsItsState };
 
     fn instant(self, inputs: &Inputs) -> Result<WholeEvaluator, InstantStop> {
         let WholeEvaluator {

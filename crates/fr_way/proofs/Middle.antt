@@ -24,6 +24,11 @@ inside_above g height f w m (deeper i v lv er u) =
     let b : height v < height i = f.levelled.owner i v lv er in
     omega arith
 
+-- what is in the era of something inside is inside
+inside_beside : (g : Graph) (x m v : ℕ) → g.live v ≡ true → g.era m ≡ g.era v → Inside g x m → Inside g x v
+inside_beside g x m v lv e (here i l er) = here v lv (sym e ∙ er)
+inside_beside g x m v lv e (deeper i o l er u) = deeper v o lv (sym e ∙ er) u
+
 module _ (p : Plan) (is : List LowItem) (ms : List ℕ) (sources : List Now) (old : Graph) (at t1 t2 : Way) (w h : ℕ) (u : UnderWay p is ms sources old at) (e : Leaves at t1 t2 w h) where
   abbrev g : Graph
   g = at.graph
@@ -55,6 +60,14 @@ module _ (p : Plan) (is : List LowItem) (ms : List ℕ) (sources : List Now) (ol
   result_left : (v : ℕ) → t2.graph.live v ≡ true → is_watch (g.kind v) ≡ true → t2.graph.result_of v ≡ g.result_of v
   result_left v l2 iw = e.kills.result_of v l2 (ap is_watch (e.sets.shape.kind v) ∙ iw) ∙ e.sets.shape.result_of v
 
+  -- the result of a watch that stays stays too, in the same era
+  result_spared : (v : ℕ) → t2.graph.live v ≡ true → is_watch (g.kind v) ≡ true → t2.graph.live (g.result_of v) ≡ g.live (g.result_of v)
+  result_spared v l2 iw =
+      let lv = lived v l2 in
+      spared (g.result_of v) (λ i.
+      let inner = inside_same g t1.graph (suc w) v e.sets.shape.live e.sets.shape.era (inside_beside g (suc w) (g.result_of v) v lv (u.frame.results.era v lv iw) i) in
+      both_bools (t2.graph.live v) l2 (e.kills.ended v inner).0)
+
   queue_left : (m : ℕ) → t1.graph.live m ≡ false → t1.queued m ≡ None
   queue_left m off = elim (by_number m w) [
     | inl same ↦ ap t1.queued same ∙ e.sets.out
@@ -80,7 +93,11 @@ module _ (p : Plan) (is : List LowItem) (ms : List ℕ) (sources : List Now) (ol
         ap is_watch (kind_left j) ∙ u.frame.scoped.no_watch w j lives (inr (inr held));
     results = λ v l2 iw.
         let was : is_watch (g.kind v) ≡ true = ap is_watch (sym (kind_left v)) ∙ iw in
-        kind_left (t2.graph.result_of v) ∙ ap g.kind (result_left v l2 was) ∙ u.frame.results.kind v (lived v l2) was;
+        let from = result_left v l2 was in
+        let lv = lived v l2 in (
+          ap t2.graph.live from ∙ result_spared v l2 was ∙ u.frame.results.live v lv was,
+          kind_left (t2.graph.result_of v) ∙ ap g.kind from ∙ u.frame.results.kind v lv was,
+        );
     taken = λ m l2. e.kills.taken m ∙ e.sets.taken m ∙ u.nodes.taken m (inl (lived m l2));
     queue = λ m off. elim (e.kills.decided m) [
       | inl i ↦ (e.kills.ended m i).1

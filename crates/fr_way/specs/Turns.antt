@@ -149,13 +149,13 @@ pub record Leaves (at t1 t2 : Way) (w h : ℕ) : Type 0 where
   pub sets : IsSet at t1 w
   pub kills : Kills t1 t2 (suc w)
 
--- where a choice is to be built: its era has no members, its owner lives, no part in scope names what doesn't live or a watch, every watch has a result, what lives is in use, and only that is queued
+-- where a choice is to be built: its era has no members, its owner lives, no part in scope names what doesn't live or a watch, every watch has a result, which lives, what lives is in use, and only that is queued
 pub record IsClear (at : Way) (w : ℕ) (env : List Part) : Type 0 where
   pub empty : at.graph.members (suc w) ≡ []
   pub owner : at.graph.live w ≡ true
   pub scope : (j : ℕ) → Reads j env → at.graph.live j ≡ true
   pub no_watch : (j : ℕ) → Reads j env → is_watch (at.graph.kind j) ≡ false
-  pub results : (v : ℕ) → at.graph.live v ≡ true → is_watch (at.graph.kind v) ≡ true → at.graph.kind (at.graph.result_of v) ≡ result
+  pub results : (v : ℕ) → at.graph.live v ≡ true → is_watch (at.graph.kind v) ≡ true → (at.graph.live (at.graph.result_of v) ≡ true) × (at.graph.kind (at.graph.result_of v) ≡ result)
   pub taken : (m : ℕ) → at.graph.live m ≡ true → at.taken m ≡ true
   pub queue : (m : ℕ) → at.graph.live m ≡ false → at.queued m ≡ None
 

@@ -3,11 +3,13 @@ pub mod Calls
 pub mod Changes
 pub mod Heights
 pub mod Killed
+pub mod Listed
 pub mod Lists
 pub mod Made
 pub mod Nodes
 pub mod Queuing
 pub mod Raised
+pub mod Sound
 pub mod Sourced
 pub mod Switched
 pub mod Whole

@@ -1,11 +1,13 @@
 -- What each call makes of a store, eras and an agenda.
-use Rattle.std.specs.Prelude.{◌≡◌, ◌≢◌, ◌⊎◌, ℕ, ◌<◌, ◌≤◌, List, [], length, take, Bool, true, false, nat_eq, Option, Some, None}
+use Rattle.std.specs.Prelude.{◌≡◌, ◌≢◌, ◌⊎◌, ℕ, ◌<◌, ◌≤◌, List, [], length, take, filter, Bool, true, false, nat_eq, Option, Some, None}
 use Rattle.fr_links.specs.Lists.{has_item}
 use Rattle.fr_queue.specs.Queue.{Queued, Same, Sets}
+use Rattle.fr_value.specs.declared.ids.NodeId.{NodeId}
 use Rattle.fr_store.specs.declared.node.Node.{Node}
-use Rattle.fr_store.specs.Nodes.{Edge, Stored, Makes, dependents_at, edge_number, has_reader}
+use Rattle.fr_store.specs.Nodes.{Edge, Stored, Makes, dependents_at, edge_number, has_reader, node_at}
 use Rattle.fr_eras.specs.Heights.{height_at}
 use Rattle.fr_eras.specs.Lives.{Lives, IsAlone, JoinsEra, Killed, LeavesQueue, Under, is_era}
+use Rattle.fr_events.specs.Works.{work_of, is_late_in}
 use Rattle.fr_graph.specs.Graph.{source}
 use Rattle.fr_nodes.specs.Kinds.{Sites}
 use Rattle.fr_way.specs.Way.{Way}
@@ -33,6 +35,15 @@ pub record Queuing (s : Stored) (l : Lives) (q r : Queued) (m : ℕ) (at : Optio
   pub place : ℕ
   pub at_is : at ≡ edge_number (dependents_at s m) place
   pub queues : QueuesAll s l q r (take place (dependents_at s m))
+
+-- whether a stored node takes its last part's value behind the instant
+abbrev pub is_late_at : Option Node → Bool
+is_late_at None = false
+is_late_at (Some n) = is_late_in (work_of n.kind)
+
+-- those of some nodes that do
+abbrev pub late_among : Stored → List NodeId → List NodeId
+late_among s = filter (λ id. is_late_at (node_at s id.0))
 
 -- an era has ended with all eras in it, and what was in it left the agenda; or there was none, and all is as it was
 abbrev pub Ends : Lives → Lives → Queued → Queued → ℕ → Type 0

@@ -1,15 +1,17 @@
 //! What becomes of the agenda and the eras, apart from a world.
-ghost use Rattle.std.specs.Prelude.{◌≡◌, ℕ, ◌+◌, false, OnOk, IsSome};
+ghost use Rattle.std.specs.Prelude.{◌≡◌, ℕ, ◌+◌, ◌++◌, false, OnOk, IsSome, IsTrue};
 ghost use Rattle.fr_store.specs.Nodes.{AreDependents, dependents_at, node_at};
 ghost use Rattle.fr_eras.specs.Heights.{AreEarlier, AreQueuedRight, AreThere};
-ghost use Rattle.fr_eras.specs.Lives.{is_era};
-ghost use Rattle.fr_world.specs.Calls.{Ends, QueuesAll, QueuesOne};
+ghost use Rattle.fr_eras.specs.Lives.{is_era, members};
+ghost use Rattle.fr_eras.specs.Order.{nodes_of};
+ghost use Rattle.fr_world.specs.Calls.{Ends, QueuesAll, QueuesOne, late_among};
 ghost use Rattle.fr_world.specs.World.{AreQueued};
 
 use fr_eras::Eras;
+use fr_events::is_late;
 use fr_queue::Agenda;
 use fr_store::Store;
-use fr_value::NodeId;
+use fr_value::{EraId, NodeId};
 use std::alloc::AllocError;
 
 /// Queues a node at its height, if it lives and isn't queued.
@@ -63,4 +65,23 @@ pub(crate) fn end_owned<A: Agenda>(store: &Store, eras: &mut Eras, agenda: &mut 
     if let Some(era) = eras.owned(owner) {
         eras.kill(era, store, agenda);
     }
+}
+
+/// Lists those members of an era that take their last part's value behind the instant, behind what was listed.
+pub(crate) fn list_late_members(
+    store: &Store,
+    eras: &Eras,
+    era: EraId,
+    late: &mut Vec<NodeId>,
+) -> Result<(), AllocError>
+    requires there { AreThere eras.now store.now }
+    requires era { IsTrue (is_era eras.now era.0) }
+    ensures { OnOk result (late.new.items ≡ late.old.items ++ late_among store.now (nodes_of (members eras.now era.0))) }
+{
+    for id in eras.in_order(era) {
+        if is_late(&store.node(id).kind) {
+            late.push(id)?;
+        }
+    }
+    Ok(())
 }

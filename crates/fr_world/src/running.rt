@@ -1,7 +1,7 @@
 //! The calls of an instant.
 ghost use Rattle.std.specs.Prelude.{◌≡◌};
 
-use crate::parts::{end_owned, queue_all, queue_one};
+use crate::parts::{end_owned, list_late_members, queue_all, queue_one};
 use crate::world::{MOST_HIGH, World};
 use fr_nodes::Signals;
 use fr_queue::Agenda;
@@ -87,6 +87,13 @@ impl<A: Agenda + Drop> Signals for World<A> {
 
     fn latch(&mut self, id: NodeId, cell: Cell) {
         self.store.latch(id, cell);
+    }
+
+    fn list_late(&self, era: EraId, late: &mut Vec<NodeId>) -> Result<(), AllocError> {
+        if !self.whole {
+            return Ok(());
+        }
+        list_late_members(&self.store, &self.eras, era, late)
     }
 
     fn bury(&mut self) {

@@ -1,11 +1,11 @@
 -- What each function of the walk comes to.
-use Rattle.std.proofs.Common.{◌≡◌, ℕ, suc, ◌+◌, ◌-◌, ◌<◌, ◌≤◌, true, List, [], ◌∷◌, ◌++◌, length, take, slice_get, Some, refl, ap, sym, ◌∙◌, subst, arith, lit<}
+use Rattle.std.proofs.Common.{◌≡◌, ℕ, suc, ◌-◌, ◌<◌, ◌≤◌, true, List, [], ◌∷◌, ◌++◌, length, take, slice_get, Some, refl, ap, sym, ◌∙◌, subst, arith, lit<}
 use Rattle.fr_value.specs.declared.value.Value.{Value}
 use Rattle.fr_value.specs.declared.now.Held.{Held}
 use Rattle.fr_value.specs.declared.now.Held.TheVariants.{Steady, Signal}
 use Rattle.fr_value.specs.declared.now.Bad.TheVariants.{Deep, Arity}
 use Rattle.fr_core.specs.Shapes.{operator_takes}
-use Rattle.fr_core.specs.declared.lowered.Low.{Low, out-Low}
+use Rattle.fr_core.specs.declared.lowered.Low.{out-Low}
 use Rattle.fr_core.specs.declared.lowered.Low.TheVariants as low
 use Rattle.fr_core.specs.declared.lowered.Low.TheOpen.{Low-F}
 use Rattle.fr_core.specs.declared.lowered.Slot.{Slot}

@@ -1,4 +1,4 @@
-use Rattle.std.proofs.Common.{◌≡◌, ◌∙◌, List, subst, sym}
+use Rattle.std.proofs.Common.{◌∙◌, List, subst, sym}
 use Rattle.fr_value.specs.declared.ids.NodeId.{NodeId}
 use Rattle.fr_engine.specs.Notes.{AreTaken}
 use Rattle.fr_nodes.specs.Kinds.{Sites}

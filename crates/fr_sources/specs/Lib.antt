@@ -1,0 +1,4 @@
+pub mod Writes
+pub mod Each
+pub mod Places
+pub mod Instants

@@ -1,0 +1,4 @@
+pub mod Parts
+pub mod Fit
+pub mod Chosen
+pub mod First
