@@ -1,0 +1,4 @@
+pub mod States
+pub mod Starts
+pub mod Values
+pub mod Ends
